@@ -1,0 +1,28 @@
+use sv_value::{Name, Spot};
+
+/// A name where it stands in the document. `num` is the number of what it names.
+#[derive(Clone, Copy, Debug)]
+pub struct Ident {
+    pub name: Name,
+    pub spot: Spot,
+    pub num: u16,
+}
+
+/// A table of one integer key and one counter.
+#[derive(Debug, Drop)]
+pub struct Table {
+    pub name: Ident,
+}
+
+/// A transaction that adds its second argument to the counter of the row that its first one names.
+#[derive(Debug, Drop)]
+pub struct Txn {
+    pub name: Ident,
+}
+
+/// The tables and transactions of a document.
+#[derive(Debug, Drop)]
+pub struct App {
+    pub tables: Vec<Table>,
+    pub txns: Vec<Txn>,
+}

@@ -1,0 +1,10 @@
+//! Applications and documents as the reader gives them, and what is refused.
+#![tactic(auto)]
+
+mod apps;
+mod refusals;
+mod requests;
+
+pub use apps::{App, Ident, Table, Txn};
+pub use refusals::{Code, Refusal, Stop};
+pub use requests::{Arg, InitRow, Request};

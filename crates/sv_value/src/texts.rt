@@ -1,0 +1,76 @@
+ghost use Rattle.std.specs.Prelude.{◌≡◌, ◌≤◌, ◌↔◌, length, IsTrue, IsSome, IfSome};
+ghost use Rattle.sv_value.specs.Texts.{is_text_byte, is_text};
+ghost use Rattle.std.specs.List.{list_all};
+
+use crate::padded::pad;
+use std::marker::Model;
+
+/// The most bytes of a text.
+pub const MOST_TEXT: usize = 40;
+
+/// A text of at most 40 printable ASCII bytes without the quote. Contracts see it as its bytes.
+#[derive(Clone, Copy, Debug, PartialEq, Eq)]
+pub struct Text {
+    len: usize,
+    cells: [u8; 40],
+}
+
+impl Model for Text {
+    ghost use Rattle.std.specs.Prelude.{ℕ, List, take, length, IsTrue};
+    ghost use Rattle.sv_value.specs.Padded.{padded, IsPadded, length-take-padded, padded-take};
+    ghost use Rattle.sv_value.specs.Texts.{is_text};
+
+    ghost Value = { List ℕ };
+
+    ghost view = { λ text. take text.len text.cells };
+
+    ghost invariant = { λ text. IsPadded 40 text.len text.cells × IsTrue (is_text (take text.len text.cells)) };
+
+    ghost inverse = { λ bytes. record { len = length bytes; cells = padded 40 bytes } };
+
+    ghost inverse_ok = { λ text held i. record {
+      len = length-take-padded held.0 i;
+      cells = padded-take held.0 i;
+    } };
+}
+
+fn is_text_byte(byte: u8) -> bool
+    ensures { result ≡ is_text_byte byte }
+{
+    byte >= 0x20 && byte <= 0x7E && byte != b'\''
+}
+
+fn are_text_bytes(bytes: &[u8]) -> bool
+    ensures { result ≡ list_all is_text_byte bytes.now }
+{
+    bytes.iter().all(|byte| is_text_byte(*byte))
+}
+
+/// Whether the bytes are a text.
+fn is_text(bytes: &[u8]) -> bool
+    ensures { result ≡ is_text bytes.now }
+{
+    bytes.len() <= MOST_TEXT && are_text_bytes(bytes)
+}
+
+impl Text {
+    /// The text of these bytes; `None` where they are none.
+    pub fn new(bytes: &[u8]) -> Option<Text>
+        ensures valid { IsSome result ↔ IsTrue (is_text bytes.now) }
+        ensures value { IfSome result (λ text. text ≡ bytes.now) }
+    {
+        if !is_text(bytes) {
+            return None;
+        }
+        Some(Text {
+            len: bytes.len(),
+            cells: pad(bytes),
+        })
+    }
+
+    pub fn bytes(&self) -> &[u8]
+        ensures { result.now ≡ self.now }
+    {
+        &self.cells[..self.len]
+    }
+}
