@@ -1,4 +1,5 @@
 pub mod Cuts
 pub mod Names
+pub mod Orders
 pub mod Padded
 pub mod Texts
