@@ -2,6 +2,7 @@
 #![tactic(auto)]
 
 mod cuts;
+mod integers;
 mod lists;
 mod memory;
 mod names;
@@ -14,6 +15,7 @@ mod texts;
 mod values;
 
 pub use cuts::Cut;
+pub use integers::put_int;
 pub use lists::List;
 pub use memory::NoMemory;
 pub use names::Name;
