@@ -1,3 +1,3 @@
 pub mod Below
 pub mod CoverLaws
-pub mod ExactOrders
+pub mod OrderLaws

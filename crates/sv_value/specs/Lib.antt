@@ -1,6 +1,6 @@
 pub mod Cuts
 pub mod Names
-pub mod OrderLaws
 pub mod Orders
 pub mod Padded
 pub mod Texts
+pub mod TotalOrders

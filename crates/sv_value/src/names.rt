@@ -77,8 +77,10 @@ impl Name {
         })
     }
 
+    /// Its bytes.
     pub fn bytes(&self) -> &[u8]
-        ensures { result.now ≡ self.now }
+        ensures value { result.now ≡ self.now }
+        ensures valid { IsTrue (is_name self.now) }
     {
         &self.cells[..self.len]
     }

@@ -12,7 +12,7 @@ impl PartialOrd for Stamp {
     ghost use Rattle.std.specs.Cmp.{po};
     ghost use Rattle.std.specs.Ordering.{as_partial_cmp};
     ghost use Rattle.sv_value.specs.Orders.{stamp_cmp};
-    ghost use Rattle.sv_value.specs.OrderLaws.{stamp_total, stamp_ties};
+    ghost use Rattle.sv_value.specs.TotalOrders.{stamp_total, stamp_ties};
 
     ghost partial_cmp = { as_partial_cmp stamp_cmp };
 
@@ -27,7 +27,7 @@ impl PartialOrd for Stamp {
 impl Ord for Stamp {
     ghost use Rattle.std.specs.Prelude.{refl};
     ghost use Rattle.sv_value.specs.Orders.{stamp_cmp};
-    ghost use Rattle.sv_value.specs.OrderLaws.{stamp_total, stamp_ties};
+    ghost use Rattle.sv_value.specs.TotalOrders.{stamp_total, stamp_ties};
 
     ghost cmp = { stamp_cmp };
 

@@ -69,8 +69,10 @@ impl Text {
         })
     }
 
+    /// Its bytes.
     pub fn bytes(&self) -> &[u8]
-        ensures { result.now ≡ self.now }
+        ensures value { result.now ≡ self.now }
+        ensures valid { IsTrue (is_text self.now) }
     {
         &self.cells[..self.len]
     }

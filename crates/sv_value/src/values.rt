@@ -20,7 +20,7 @@ impl PartialOrd for Val {
     ghost use Rattle.std.specs.Cmp.{po};
     ghost use Rattle.std.specs.Ordering.{as_partial_cmp};
     ghost use Rattle.sv_value.specs.Orders.{val_cmp};
-    ghost use Rattle.sv_value.specs.OrderLaws.{val_total, val_ties};
+    ghost use Rattle.sv_value.specs.TotalOrders.{val_total, val_ties};
 
     ghost partial_cmp = { as_partial_cmp val_cmp };
 
@@ -40,7 +40,7 @@ impl PartialOrd for Val {
 impl Ord for Val {
     ghost use Rattle.std.specs.Prelude.{refl};
     ghost use Rattle.sv_value.specs.Orders.{val_cmp};
-    ghost use Rattle.sv_value.specs.OrderLaws.{val_total, val_ties};
+    ghost use Rattle.sv_value.specs.TotalOrders.{val_total, val_ties};
 
     ghost cmp = { val_cmp };
 
@@ -70,7 +70,7 @@ impl PartialOrd for Key {
     ghost use Rattle.std.specs.Cmp.{po};
     ghost use Rattle.std.specs.Ordering.{as_partial_cmp};
     ghost use Rattle.sv_value.specs.Orders.{key_cmp};
-    ghost use Rattle.sv_value.specs.OrderLaws.{key_total, key_ties};
+    ghost use Rattle.sv_value.specs.TotalOrders.{key_total, key_ties};
 
     ghost partial_cmp = { as_partial_cmp key_cmp };
 
@@ -90,7 +90,7 @@ impl PartialOrd for Key {
 impl Ord for Key {
     ghost use Rattle.std.specs.Prelude.{refl};
     ghost use Rattle.sv_value.specs.Orders.{key_cmp};
-    ghost use Rattle.sv_value.specs.OrderLaws.{key_total, key_ties};
+    ghost use Rattle.sv_value.specs.TotalOrders.{key_total, key_ties};
 
     ghost cmp = { key_cmp };
 

@@ -1,4 +1,4 @@
--- Only equal texts, values, keys and stamps tie.
+-- The orders are total, and only equal values tie.
 use Rattle.std.proofs.Common.{◌≡◌, ◌↔◌, IsTrue, ℕ, Option, Some, None, refl, ap}
 use Rattle.std.specs.declared.cmp.Ordering.{Ordering}
 use Rattle.std.specs.Ordering.{nat_cmp, ordering_then, is_eq}
@@ -10,7 +10,7 @@ use Rattle.sv_value.specs.declared.values.Val.TheVariants.{Int, Text}
 use Rattle.sv_value.specs.declared.values.Key.{Key}
 use Rattle.sv_value.specs.declared.stamps.Stamp.{Stamp}
 use Rattle.sv_value.specs.Orders.{text_cmp, val_cmp, key_cmp, stamp_cmp}
-use Rattle.sv_value.specs.OrderLaws.{text_total, val_total, key_total, stamp_total}
+pub use Rattle.sv_value.specs.TotalOrders.{text_total, val_total, key_total, stamp_total}
 
 pub exact_texts : CmpEqualImpliesEq text_cmp
 exact_texts = exact_bytes
