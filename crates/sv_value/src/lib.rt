@@ -11,6 +11,8 @@ mod padded;
 mod sites;
 mod spots;
 mod stamps;
+#[cfg(test)]
+mod tests;
 mod texts;
 mod values;
 
