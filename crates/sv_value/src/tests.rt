@@ -142,15 +142,20 @@ fn numbers_are_printed(rt: HostRuntime) -> Result<(), Fail> {
 #[test]
 fn a_cut_has_what_it_counts(rt: HostRuntime) -> Result<(), Fail> {
     let site = Site::new(8).ok_or("no site")?;
-    let mut cut = Cut {
+    let start = Cut {
         blue: [3, 0, 0, 0, 0, 0, 0, 0],
         reds: 0,
     };
-    cut.add_blue(site);
-    cut.add_red();
-    assert!(rt; cut.has(Packet::Blue { site, seq: 0 }) && !cut.has(Packet::Blue { site, seq: 1 }));
-    assert!(rt; cut.has(Packet::Red { slot: 0 }) && !cut.has(Packet::Red { slot: 1 }));
-    assert!(rt; cut.covers(&Cut::empty()) && cut.covers(&cut) && !Cut::empty().covers(&cut));
+    let mut blue = start;
+    blue.add_blue(site);
+    assert!(rt;
+        blue.has(Packet::Blue { site, seq: 0 }) && !start.has(Packet::Blue { site, seq: 0 })
+    );
+    let mut red = start;
+    red.add_red();
+    assert!(rt; red.has(Packet::Red { slot: 0 }) && !red.has(Packet::Red { slot: 1 }));
+    assert!(rt; red.covers(&start) && red.covers(&red) && start.covers(&Cut::empty()));
+    assert!(rt; !start.covers(&red) && !blue.covers(&red) && !red.covers(&blue));
     Ok(())
 }
 
