@@ -1,52 +1,25 @@
 -- The orders are total, and only equal values tie.
-use Rattle.std.proofs.Common.{◌≡◌, ℕ, Option, Some, None, refl, ap}
+use Rattle.std.proofs.Common.{◌≡◌, ◌↔◌, IsTrue, ℕ, Option, Some, None, refl, ap}
 use Rattle.std.specs.declared.cmp.Ordering.{Ordering}
-use Rattle.std.specs.declared.cmp.Ordering.TheVariants.{Less, Equal}
-use Rattle.std.specs.Ordering.{nat_cmp, ordering_then, ordering_reverse}
+use Rattle.std.specs.Ordering.{nat_cmp, ordering_then, is_eq}
 use Rattle.std.specs.Option.{option_cmp}
-use Rattle.std.specs.Cmp.{IsTotalOrder}
-use Rattle.std.specs.Cmp.Lexicographic.{options_total}
-use Rattle.std.proofs.lemmas.Cmp.{on_total, then_total, nat_cmp_total, int_cmp_total, nat_list_cmp_total}
+use Rattle.std.specs.Cmp.{IsTotalOrder, Equal-is, tied_itself}
 use Rattle.std.proofs.lemmas.Map.Lookups.{CmpEqualImpliesEq, exact_pairs, exact_unsigned, exact_signed, exact_bytes}
 use Rattle.sv_value.specs.declared.values.Val.{Val}
-use Rattle.sv_value.specs.declared.values.Val.TheVariants.{Int, Text as IsText}
+use Rattle.sv_value.specs.declared.values.Val.TheVariants.{Int, Text}
 use Rattle.sv_value.specs.declared.values.Key.{Key}
-use Rattle.sv_value.specs.Orders.{text_cmp, val_cmp, key_cmp}
+use Rattle.sv_value.specs.declared.stamps.Stamp.{Stamp}
+use Rattle.sv_value.specs.Orders.{text_cmp, val_cmp, key_cmp, stamp_cmp}
+pub use Rattle.sv_value.specs.TotalOrders.{text_total, val_total, key_total, stamp_total}
 
-val_antisymm : (x y : Val) → val_cmp x y ≡ ordering_reverse (val_cmp y x)
-val_antisymm (Int x) (Int y) = int_cmp_total.antisymm x y
-val_antisymm (Int x) (IsText b) = refl
-val_antisymm (IsText a) (Int y) = refl
-val_antisymm (IsText a) (IsText b) = nat_list_cmp_total.antisymm a b
-
-val_trans : (x y z : Val) → val_cmp x y ≡ Less → val_cmp y z ≡ Less → val_cmp x z ≡ Less
-val_trans (Int x) (Int y) (Int z) p q = int_cmp_total.trans x y z p q
-val_trans (Int x) (Int y) (IsText c) p q = refl
-val_trans (Int x) (IsText b) (Int z) p q = cc
-val_trans (Int x) (IsText b) (IsText c) p q = refl
-val_trans (IsText a) (Int y) z p q = cc
-val_trans (IsText a) (IsText b) (Int z) p q = cc
-val_trans (IsText a) (IsText b) (IsText c) p q = nat_list_cmp_total.trans a b c p q
-
-val_congr : (x y z : Val) → val_cmp x y ≡ Equal → val_cmp x z ≡ val_cmp y z
-val_congr (Int x) (Int y) (Int z) p = int_cmp_total.congr x y z p
-val_congr (Int x) (Int y) (IsText c) p = refl
-val_congr (Int x) (IsText b) z p = cc
-val_congr (IsText a) (Int y) z p = cc
-val_congr (IsText a) (IsText b) (Int z) p = refl
-val_congr (IsText a) (IsText b) (IsText c) p = nat_list_cmp_total.congr a b c p
-
-pub val_total : IsTotalOrder val_cmp
-val_total = record { antisymm = val_antisymm; trans = val_trans; congr = val_congr }
-
-pub key_total : IsTotalOrder key_cmp
-key_total = then_total (on_total (λ k. k.first) val_total) (on_total (λ k. k.second) (options_total val_total))
+pub exact_texts : CmpEqualImpliesEq text_cmp
+exact_texts = exact_bytes
 
 pub exact_vals : CmpEqualImpliesEq val_cmp
 exact_vals (Int x) (Int y) h = ap (λ n. Int n) (exact_signed x y h)
-exact_vals (Int x) (IsText b) h = cc
-exact_vals (IsText a) (Int y) h = cc
-exact_vals (IsText a) (IsText b) h = ap (λ t. IsText t) (exact_bytes a b h)
+exact_vals (Int x) (Text b) h = cc
+exact_vals (Text a) (Int y) h = cc
+exact_vals (Text a) (Text b) h = ap (λ t. Text t) (exact_texts a b h)
 
 exact_options : {A : Type 0} {R : A → A → Ordering} → CmpEqualImpliesEq R → CmpEqualImpliesEq (option_cmp R)
 exact_options e None None h = refl
@@ -55,4 +28,31 @@ exact_options e (Some x) None h = cc
 exact_options e (Some x) (Some y) h = ap (λ a. Some a) (e x y h)
 
 pub exact_keys : CmpEqualImpliesEq key_cmp
-exact_keys a b h = ap (λ (p : Val × Option Val). let k : Key = record { first = p.0; second = p.1 } in k) (exact_pairs val_cmp (option_cmp val_cmp) exact_vals (exact_options exact_vals) (a.first, a.second) (b.first, b.second) h)
+exact_keys a b h = ap (λ (p : Val × Option Val). let k : Key = record { first = p.0; second = p.1 } in k)
+    (exact_pairs val_cmp (option_cmp val_cmp) exact_vals (exact_options exact_vals) (a.first, a.second) (b.first, b.second) h)
+
+pub exact_stamps : CmpEqualImpliesEq stamp_cmp
+exact_stamps a b h = ap (λ (p : ℕ × (ℕ × ℕ)). let s : Stamp = record { time = p.0; site = p.1.0; place = p.1.1 } in s)
+    (exact_pairs nat_cmp (λ (x y : ℕ × ℕ). ordering_then (nat_cmp x.0 y.0) (nat_cmp x.1 y.1)) exact_unsigned (exact_pairs nat_cmp nat_cmp exact_unsigned exact_unsigned)
+    (a.time, (a.site, a.place)) (b.time, (b.site, b.place)) h)
+
+tied : {A : Type 0} {R : A → A → Ordering} → IsTotalOrder R → CmpEqualImpliesEq R → (x y : A) → IsTrue (is_eq (R x y)) ↔ (x ≡ y)
+tied {A} {R} total exact x y = (
+  λ h. exact x y ((Equal-is (R x y)).0 h),
+  λ e. (Equal-is (R x y)).1 (rw e (tied_itself total y)),
+)
+
+pub tied_texts : (a b : _) → IsTrue (is_eq (text_cmp a b)) ↔ (a ≡ b)
+tied_texts = tied text_total exact_texts
+
+pub tied_vals : (x y : Val) → IsTrue (is_eq (val_cmp x y)) ↔ (x ≡ y)
+tied_vals = tied val_total exact_vals
+
+pub tied_keys : (a b : Key) → IsTrue (is_eq (key_cmp a b)) ↔ (a ≡ b)
+tied_keys = tied key_total exact_keys
+
+pub tied_stamps : (a b : Stamp) → IsTrue (is_eq (stamp_cmp a b)) ↔ (a ≡ b)
+tied_stamps = tied stamp_total exact_stamps
+
+-- for `using`, where a comparison is asked whether it is Equal
+pub ruleset ties = (tied_texts, tied_vals, tied_keys, tied_stamps)

@@ -3,3 +3,4 @@ pub mod Names
 pub mod Orders
 pub mod Padded
 pub mod Texts
+pub mod TotalOrders
