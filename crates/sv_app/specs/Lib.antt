@@ -1,2 +1,3 @@
+pub mod CodedTables
 pub mod Codes
 pub mod Tables

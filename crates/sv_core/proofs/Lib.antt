@@ -1,9 +1,11 @@
 pub mod BirthLaws
 pub mod CutLaws
 pub mod HistoryLaws
+pub mod InitLaws
 pub mod ListLaws
 pub mod MediumLaws
 pub mod PlaceListLaws
+pub mod RoomLaws
+pub mod RowLaws
 pub mod SumLaws
 pub mod TableLaws
-pub mod RoomLaws

@@ -16,6 +16,7 @@ use Rattle.sv_core.specs.Cut.{Cut, Medium}
 use Rattle.sv_core.specs.Applied.{place_of}
 use Rattle.sv_core.specs.TablesOfCut.{is_place, sum_to, gained, gained_by, gained_in}
 use Rattle.sv_core.specs.Run.{fits64}
+use Rattle.sv_core.specs.Within.{Within}
 use Rattle.sv_core.specs.History.{History, brings, cut_of, op_of, published, answers}
 use Rattle.sv_core.specs.Legal.{home, Legal, IsNext}
 use Rattle.sv_core.proofs.CutLaws.{order, same_test, other_test, both_true}
@@ -177,11 +178,6 @@ published_few doc h sized legal o = from (order o 9)
     from (inr big) =
         let none : length (published doc h o) ≡ 0 = few doc h sized.0 legal o (λ both. let le : o ≤ doc.sites = both.1 in omega (arith, big, le, sized.1)) in
         omega (arith, none)
-
--- between -n and n
-pub record Within (n : ℕ) (z : ℤ) : Type 0 where
-  pub low : neg_ℤ (pos n) ≤ℤ z
-  pub high : z ≤ℤ pos n
 
 pub Within-add : (m n : ℕ) (a b : ℤ) → Within m a → Within n b → Within (m + n) (a +ℤ b)
 Within-add m n a b v w = record { low = omega (arith, ints, v.low, w.low); high = omega (arith, ints, v.high, w.high) }

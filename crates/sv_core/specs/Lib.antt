@@ -2,6 +2,8 @@ pub mod Applied
 pub mod Cut
 pub mod History
 pub mod Legal
+pub mod Rows
 pub mod Run
 pub mod Sound
 pub mod TablesOfCut
+pub mod Within

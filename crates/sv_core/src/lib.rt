@@ -4,7 +4,9 @@
 mod docs;
 mod entries;
 mod ops;
+mod rows;
 
 pub use docs::Doc;
 pub use entries::{Delivered, Entry, Outcome, Reply};
 pub use ops::{Op, RowEffect};
+pub use rows::{KeptRow, Rows};
