@@ -7,7 +7,7 @@ pub struct Stamp {
     pub time: u64,
     /// The number of its site.
     pub site: u8,
-    /// The place of the change in it, from 1.
+    /// The place of the change in it, from 0.
     pub place: u16,
 }
 
