@@ -8,7 +8,9 @@ use crate::sites::Site;
 /// reds.
 #[derive(Clone, Copy, Debug, PartialEq, Eq)]
 pub struct Cut {
+    /// How many blue operations of each site, site 1 first.
     pub blue: [u32; 8],
+    /// How many red operations, in the one order of all of them.
     pub reds: u32,
 }
 

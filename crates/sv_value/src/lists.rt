@@ -22,6 +22,7 @@ impl<T> Model for List<T> {
 }
 
 impl<T> List<T> {
+    /// The list without items.
     pub fn new(alloc: Global) -> List<T>
         ensures { result ≡ [] }
     {
@@ -30,30 +31,35 @@ impl<T> List<T> {
         }
     }
 
+    /// The list of the items of a `Vec`.
     pub fn from_vec(items: Vec<T>) -> List<T>
         ensures { result ≡ items.items }
     {
         List { items }
     }
 
+    /// How many items it has.
     pub fn len(&self) -> usize
         ensures { result ≡ length self.now }
     {
         self.items.len()
     }
 
+    /// Whether it has no item.
     pub fn is_empty(&self) -> bool
         ensures { IsTrue result ↔ (self.now ≡ []) }
     {
         self.items.is_empty()
     }
 
+    /// Its items, in order.
     pub fn items(&self) -> &[T]
         ensures { result.now ≡ self.now }
     {
         self.items.as_slice()
     }
 
+    /// The `Vec` of its items.
     pub fn into_vec(self) -> Vec<T>
         ensures { result.items ≡ self }
     {

@@ -24,7 +24,7 @@ impl Model for Site {
 }
 
 impl Site {
-    /// The site of this number, if there can be one.
+    /// The site of this number; `None` where it is 0 or above 8.
     pub fn new(number: u8) -> Option<Site>
         ensures valid { IsSome result ↔ ((1 ≤ number) × (number ≤ 8)) }
         ensures value { IfSome result (λ site. site ≡ number) }
@@ -35,6 +35,7 @@ impl Site {
         Some(Site { number })
     }
 
+    /// Its number, 1 to 8.
     pub fn number(self) -> u8
         ensures value { result ≡ self }
         ensures from { 1 ≤ result }

@@ -3,8 +3,11 @@ use std::cmp::Ordering;
 /// When a change was made: the time and the site of its operation, and its place in it. Stamps order changes.
 #[derive(Clone, Copy, Debug, PartialEq, Eq)]
 pub struct Stamp {
+    /// The time of the operation.
     pub time: u64,
+    /// The number of its site.
     pub site: u8,
+    /// The place of the change in it, from 0.
     pub place: u16,
 }
 

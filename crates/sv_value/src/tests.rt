@@ -164,6 +164,8 @@ fn a_list_grows(rt: HostRuntime) -> Result<(), Fail> {
     let mut list = List::new(rt.alloc());
     list.push(3u8)?;
     list.push(4)?;
+    let list = List::from_vec(list.into_vec());
     assert_eq!(rt; list.copied(rt.alloc())?.items(), [3, 4].as_slice());
+    assert!(rt; list.len() == 2 && !list.is_empty());
     Ok(())
 }

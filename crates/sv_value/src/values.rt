@@ -4,14 +4,18 @@ use std::cmp::Ordering;
 /// A value of a column, a parameter or an expression.
 #[derive(Clone, Copy, Debug, PartialEq, Eq)]
 pub enum Val {
+    /// An integer.
     Int(i64),
+    /// A text.
     Text(Text),
 }
 
 /// The key of a row: one or two values.
 #[derive(Clone, Copy, Debug, PartialEq, Eq)]
 pub struct Key {
+    /// The value of the first key column.
     pub first: Val,
+    /// The value of the second, if the table has two.
     pub second: Option<Val>,
 }
 
