@@ -9,7 +9,7 @@ use Rattle.sv_app.specs.declared.places.Place.{Place}
 use Rattle.sv_app.specs.declared.requests.Request.{Request}
 use Rattle.sv_app.specs.declared.requests.InitRow.{InitRow}
 use Rattle.sv_app.specs.Tables.{Row, Tables}
-use Rattle.sv_core.specs.declared.docs.Doc.{Doc}
+use Rattle.sv_core.specs.Document.{Document}
 use Rattle.sv_core.specs.declared.ops.RowEffect.{RowEffect}
 use Rattle.sv_core.specs.declared.ops.Op.{Op}
 use Rattle.sv_core.specs.declared.entries.Reply.{Reply}
@@ -19,7 +19,8 @@ use Rattle.sv_core.specs.Cut.{Cut, Medium, as_deps, held}
 use Rattle.sv_core.specs.Applied.{place_of}
 use Rattle.sv_core.specs.TablesOfCut.{is_place, init_place, initial, gained_in, named_by, named_to, tables_of}
 use Rattle.sv_core.specs.declared.entries.Outcome.TheVariants.{Done, Range}
-use Rattle.sv_core.specs.Run.{Ran, ends, run_at, run_of, place_asked, second_arg, fits64}
+use Rattle.sv_core.specs.declared.runs.Ran.{Ran}
+use Rattle.sv_core.specs.Run.{ends, run_at, run_of, place_asked, second_arg, fits64}
 use Rattle.sv_core.specs.History.{History, cut_of, back_to, op_of, news, published, tables_at}
 use Rattle.sv_core.specs.Legal.{Legal, IsAnswer, IsPacket, FitsDoc}
 use Rattle.sv_core.proofs.ListLaws.{get_taken}
@@ -34,7 +35,7 @@ pub or_true : (a b : Bool) → (a || b) ≡ true → (a ≡ true) ⊎ (b ≡ tru
 or_true true b e = inl refl
 or_true false b e = inr e
 
-abbrev pub init_places : Doc → List Place
+abbrev pub init_places : Document → List Place
 init_places doc = map init_place doc.init
 
 -- the one change of a run that changes anything
@@ -46,20 +47,20 @@ pub record OneChange (p : Place) (by : ℤ) (o : Option Row) (changes : List Row
   pub at : place_of effect ≡ p
   pub delta : effect.delta ≡ by
 
-pub run_one : (doc : Doc) (h : History) (site at : ℕ) (p : Place) (by : ℤ) (o : Option Row) (packet : Packet)
-    → IsPacket doc h site at (run_at p by o).changes (Some packet) → OneChange p by o (run_at p by o).changes
+pub run_one : (doc : Document) (h : History) (site at : ℕ) (p : Place) (by : ℤ) (o : Option Row) (packet : Packet)
+    → IsPacket doc h site at (run_at p by o).effects (Some packet) → OneChange p by o (run_at p by o).effects
 run_one doc h site at p by None packet named = absurd cc
 run_one doc h site at p by (Some row) packet named = split (fits64 row.count && fits64 (row.count +ℤ by)) named
   where
     ran : Bool → Ran
-    ran b = if b then record { outcome = Done; changes = record { table = p.table; key = p.key; delta = by } ∷ [] } else ends Range
+    ran b = if b then record { outcome = Done; effects = record { table = p.table; key = p.key; delta = by } ∷ [] } else ends Range
 
-    split : (b : Bool) → IsPacket doc h site at (ran b).changes (Some packet) → OneChange p by (Some row) (ran b).changes
+    split : (b : Bool) → IsPacket doc h site at (ran b).effects (Some packet) → OneChange p by (Some row) (ran b).effects
     split true named = record { row = row; stands = refl; effect = record { table = p.table; key = p.key; delta = by }; only = refl; at = refl; delta = refl }
     split false named = absurd cc
 
 -- what is known of a published operation
-pub record Birth (doc : Doc) (o q : ℕ) (op : Op) : Type 0 where
+pub record Birth (doc : Document) (o q : ℕ) (op : Op) : Type 0 where
   pub site_is : op.site ≡ o
   pub deps_own : counts op.deps o ≡ q
   pub effect : RowEffect
@@ -75,10 +76,10 @@ names_one p e es only named = one (is_place p (place_of e)) (ap (names p) (sym o
     one false t = t
 
 -- a place named by operations that name only known places is known
-abbrev AreKnown : Doc → List Op → Type 0
+abbrev AreKnown : Document → List Op → Type 0
 AreKnown doc ops = (q : ℕ) (op : Op) → slice_get ops q ≡ Some op → (p : Place) → names p op.effects ≡ true → among p (init_places doc) ≡ true
 
-named_known : (doc : Doc) (ops : List Op) → AreKnown doc ops → (p : Place) → among p (named_by ops) ≡ true → among p (init_places doc) ≡ true
+named_known : (doc : Document) (ops : List Op) → AreKnown doc ops → (p : Place) → among p (named_by ops) ≡ true → among p (init_places doc) ≡ true
 named_known doc [] known p named = absurd cc
 named_known doc (op ∷ ops) known p named =
     from (or_true (names p op.effects) (among p (named_by ops)) (sym (among-append p (map place_of op.effects) (named_by ops)) ∙ named)) (λ rest. named_known doc ops (λ q x get. known (suc q) x get) p rest)
@@ -87,7 +88,7 @@ named_known doc (op ∷ ops) known p named =
     from (inl here) ih = known 0 op refl p here
     from (inr there) ih = ih there
 
-named_to_known : (doc : Doc) (m : Medium) (n : ℕ) → ((o : ℕ) → AreKnown doc (m o)) → (p : Place) → among p (named_to m n) ≡ true → among p (init_places doc) ≡ true
+named_to_known : (doc : Document) (m : Medium) (n : ℕ) → ((o : ℕ) → AreKnown doc (m o)) → (p : Place) → among p (named_to m n) ≡ true → among p (init_places doc) ≡ true
 unfolding named_to
 named_to_known doc m zero known p named = absurd cc
 named_to_known doc m (suc n) known p named =
@@ -104,7 +105,7 @@ get_from_take (suc k) (x ∷ ops) zero op e = e
 get_from_take (suc k) (x ∷ ops) (suc q) op e = get_from_take k ops q op e
 
 -- a row of a cut's tables is an initial one, where operations name only such
-pub row_known : (doc : Doc) (m : Medium) (cut : Cut) → ((o : ℕ) → AreKnown doc (m o)) → (p : Place) (row : Row) → get (tables_of doc.init m cut) p ≡ Some row
+pub row_known : (doc : Document) (m : Medium) (cut : Cut) → ((o : ℕ) → AreKnown doc (m o)) → (p : Place) (row : Row) → get (tables_of doc.init m cut) p ≡ Some row
     → among p (init_places doc) ≡ true
 row_known doc m cut known p row stands = from (among p (init_places doc ++ named_to (held m cut) 9)) refl
   where
@@ -123,7 +124,7 @@ row_known doc m cut known p row stands = from (among p (init_places doc ++ named
     from false is = let none : ◌≡◌ {A = Option Row} None (Some row) = subst (λ b. (if b then Some (record { count = initial p doc.init +ℤ gained_in p (held m cut) }) else None) ≡ Some row) is kept in absurd cc
 
 -- what an answer publishes
-born : (doc : Doc) (h : History) (session index : ℕ) (request : Request) (site at : ℕ) (reply : Reply) (packet : Packet) → 1 ≤ doc.sites → doc.sites ≤ 8 → Legal doc h
+born : (doc : Document) (h : History) (session index : ℕ) (request : Request) (site at : ℕ) (reply : Reply) (packet : Packet) → 1 ≤ doc.sites → doc.sites ≤ 8 → Legal doc h
     → ((o : ℕ) → AreKnown doc (published doc h o)) → IsAnswer doc h session index request site at reply (Some packet)
     → Birth doc (origin packet) (length (published doc h (origin packet))) (op_of doc (published doc h) h site at request)
 born doc h session index request site at reply packet some eight legal known a = record {
@@ -131,7 +132,7 @@ born doc h session index request site at reply packet some eight legal known a =
   deps_own = (λ i. counts (as_deps (cut_of (now i) site)) (origin packet)) ∙ (λ i. counts_cut doc h some eight legal site i (origin packet)) ∙ (λ i. cut_of h site (next.origin_is i)) ∙ own doc h legal site
       ∙ (λ i. length (published doc h (sym next.origin_is i)));
   effect = one.effect;
-  only = ap (λ t. (run_of request t).changes) (sym tables) ∙ one.only;
+  only = ap (λ t. (run_of request t).effects) (sym tables) ∙ one.only;
   known = subst (λ p. among p (init_places doc) ≡ true) (sym one.at) (row_known doc (published doc h) (cut_of h site) known (place_asked request) one.row (ap (λ t. get t (place_asked request)) here ∙ one.stands));
   fits = subst (λ n. IsTrue (fits64 n)) (sym one.delta) a.fits.second;
 }
@@ -142,7 +143,7 @@ born doc h session index request site at reply packet some eight legal known a =
     now : back_to at h ≡ h
     now = back_to_now at h a.place
 
-    one : OneChange (place_asked request) (second_arg request.args) (get (tables_at doc (back_to at h) site) (place_asked request)) (run_of request (tables_at doc (back_to at h) site)).changes
+    one : OneChange (place_asked request) (second_arg request.args) (get (tables_at doc (back_to at h) site) (place_asked request)) (run_of request (tables_at doc (back_to at h) site)).effects
     one = run_one doc h site at (place_asked request) (second_arg request.args) (get (tables_at doc (back_to at h) site) (place_asked request)) packet a.named
 
     here : tables_of doc.init (published doc h) (cut_of h site) ≡ tables_at doc (back_to at h) site
@@ -157,15 +158,15 @@ born doc h session index request site at reply packet some eight legal known a =
 same_pair : (a b : ℕ × Op) → Some a ≡ Some b → a ≡ b
 same_pair a b e = cc
 
-abbrev All_born : Doc → History → Type 0
+abbrev All_born : Document → History → Type 0
 All_born doc h = (o q : ℕ) (op : Op) → slice_get (published doc h o) q ≡ Some op → Birth doc o q op
 
-all_known : (doc : Doc) (h : History) → All_born doc h → (o : ℕ) → AreKnown doc (published doc h o)
+all_known : (doc : Document) (h : History) → All_born doc h → (o : ℕ) → AreKnown doc (published doc h o)
 all_known doc h born o q op e p named =
     let b : Birth doc o q op = born o q op e in
     subst (λ x. among x (init_places doc) ≡ true) (sym (tells_apart exact_places p (place_of b.effect) (names_one p b.effect op.effects b.only named))) b.known
 
-born_next : (doc : Doc) (h : History) (e : Entry) (o : ℕ) (op : Op) → 1 ≤ doc.sites → doc.sites ≤ 8 → Legal doc (e ∷ h) → All_born doc h
+born_next : (doc : Document) (h : History) (e : Entry) (o : ℕ) (op : Op) → 1 ≤ doc.sites → doc.sites ≤ 8 → Legal doc (e ∷ h) → All_born doc h
     → news doc (published doc h) h e ≡ Some (o, op) → Birth doc o (length (published doc h o)) op
 born_next doc h (Answer session index request site at reply None) o op some eight legal all n = absurd cc
 born_next doc h (Answer session index request site at reply (Some packet)) o op some eight legal all n =
@@ -175,7 +176,7 @@ born_next doc h (Answer session index request site at reply (Some packet)) o op 
 born_next doc h (Apply site packet) o op some eight legal all n = absurd cc
 
 -- each published operation was made so
-pub birth : (doc : Doc) (h : History) → 1 ≤ doc.sites → doc.sites ≤ 8 → Legal doc h → All_born doc h
+pub birth : (doc : Document) (h : History) → 1 ≤ doc.sites → doc.sites ≤ 8 → Legal doc h → All_born doc h
 birth doc [] some eight legal o q op e = absurd cc
 birth doc (x ∷ h) some eight legal o q op e = from (birth doc h some eight legal.1) (news_get (news doc (published doc h) h x) (published doc h) o q op e)
   where

@@ -7,7 +7,7 @@ use Rattle.std.proofs.lemmas.Bool.Decides.{nat_tests}
 use Rattle.sv_value.specs.declared.packets.Packet.{Packet}
 use Rattle.sv_value.specs.Cuts.{origin, number}
 use Rattle.sv_app.specs.declared.places.Place.{Place}
-use Rattle.sv_core.specs.declared.docs.Doc.{Doc}
+use Rattle.sv_core.specs.Document.{Document}
 use Rattle.sv_core.specs.declared.ops.RowEffect.{RowEffect}
 use Rattle.sv_core.specs.declared.ops.Op.{Op}
 use Rattle.sv_core.specs.declared.entries.Entry.{Entry}
@@ -87,11 +87,11 @@ had_more h e (suc place) o one eight small is = total-one (had h) (had (e ∷ h)
     others p apart = total-same (λ x. cut_of (e ∷ h) (suc p) x) (λ x. cut_of h (suc p) x) 9
         (λ x lt. rises (suc p) x false (is (suc p) x ∙ rw (other_test (suc p) (suc place) (λ e. apart (omega (arith, e)))) refl))
 
-abbrev pub IsSized : Doc → Type 0
+abbrev pub IsSized : Document → Type 0
 IsSized doc = (1 ≤ doc.sites) × (doc.sites ≤ 8)
 
 -- each published operation is an answer's
-pub stand_few : (doc : Doc) (h : History) → IsSized doc → Legal doc h → stand (published doc h) ≤ answers h
+pub stand_few : (doc : Document) (h : History) → IsSized doc → Legal doc h → stand (published doc h) ≤ answers h
 unfolding total
 stand_few doc [] sized legal = omega arith
 stand_few doc (Answer session index request site at reply None ∷ h) sized legal = let ih : stand (published doc h) ≤ answers h = stand_few doc h sized legal.1 in omega (arith, ih)
@@ -107,11 +107,11 @@ stand_few doc (Answer session index request site at reply (Some packet) ∷ h) s
     omega (arith, ih, rise)
 stand_few doc (Apply site packet ∷ h) sized legal = stand_few doc h sized legal.1
 
-had_few : (doc : Doc) (h : History) → Legal doc h → had_all h ≤ 8 * stand (published doc h)
+had_few : (doc : Document) (h : History) → Legal doc h → had_all h ≤ 8 * stand (published doc h)
 had_few doc h legal = total-below (had h) 8 (stand (published doc h)) (λ p. total-le (λ o. cut_of h (suc p) o) (λ o. length (published doc h o)) 9 (λ o. within doc h legal (suc p) o))
 
 -- an origin that has an operation is a site of the document
-pub small_origin : (doc : Doc) (h : History) (o q : ℕ) (op : Op) → IsSized doc → Legal doc h → slice_get (published doc h o) q ≡ Some op → o < 9
+pub small_origin : (doc : Document) (h : History) (o q : ℕ) (op : Op) → IsSized doc → Legal doc h → slice_get (published doc h o) q ≡ Some op → o < 9
 small_origin doc h o q op sized legal get = from (order o 9)
   where
     from : (o < 9) ⊎ (9 ≤ o) → o < 9
@@ -122,7 +122,7 @@ small_origin doc h o q op sized legal get = from (order o 9)
         absurd (omega (arith, none, some))
 
 -- each entry answers a request or brings a site one operation
-long_few : (doc : Doc) (h : History) → IsSized doc → Legal doc h → length h ≤ answers h + had_all h
+long_few : (doc : Document) (h : History) → IsSized doc → Legal doc h → length h ≤ answers h + had_all h
 unfolding total
 long_few doc [] sized legal = omega arith
 long_few doc (Answer session index request site at reply None ∷ h) sized legal = let ih : length h ≤ answers h + had_all h = long_few doc h sized legal.1 in omega (arith, ih)
@@ -142,13 +142,13 @@ long_few doc (Apply site packet ∷ h) sized legal =
     omega (arith, ih, rise)
 
 -- no more requests are answered than the document awaits
-pub answers_few : (doc : Doc) (h : History) → Legal doc h → answers h ≤ doc.asks
+pub answers_few : (doc : Document) (h : History) → Legal doc h → answers h ≤ doc.asks
 answers_few doc [] legal = omega arith
 answers_few doc (Answer session index request site at reply packet ∷ h) legal = let lt : answers h < doc.asks = legal.0.awaited in omega (arith, lt)
 answers_few doc (Apply site packet ∷ h) legal = answers_few doc h legal.1
 
 -- a legal history has at most nine entries for each request
-pub length_few : (doc : Doc) (h : History) → IsSized doc → Legal doc h → length h ≤ 9 * doc.asks
+pub length_few : (doc : Document) (h : History) → IsSized doc → Legal doc h → length h ≤ 9 * doc.asks
 length_few doc h sized legal =
     let a : length h ≤ answers h + had_all h = long_few doc h sized legal in
     let b : had_all h ≤ 8 * stand (published doc h) = had_few doc h legal in
@@ -166,7 +166,7 @@ total-part f (suc n) k lt = split (cases_eq k n) (λ below. total-part f n k bel
     split (inr apart) ih = let a : f k ≤ total f n = ih (omega (arith, lt, apart)) in omega (arith, a)
 
 -- each list of the medium is at most as long as the requests are many
-pub published_few : (doc : Doc) (h : History) → IsSized doc → Legal doc h → (o : ℕ) → length (published doc h o) ≤ doc.asks
+pub published_few : (doc : Document) (h : History) → IsSized doc → Legal doc h → (o : ℕ) → length (published doc h o) ≤ doc.asks
 published_few doc h sized legal o = from (order o 9)
   where
     from : (o < 9) ⊎ (9 ≤ o) → length (published doc h o) ≤ doc.asks
@@ -199,7 +199,7 @@ gained_one p e es only w = subst (λ l. Within (2 ^ 63) (gained p l)) (sym only)
     one true = record { low = omega (arith, ints, w.low); high = omega (arith, ints, w.high) }
     one false = record { low = omega (arith, ints); high = omega (arith, ints) }
 
-pub birth_small : (doc : Doc) (o q : ℕ) (op : Op) (p : Place) → Birth doc o q op → Within (2 ^ 63) (gained p op.effects)
+pub birth_small : (doc : Document) (o q : ℕ) (op : Op) (p : Place) → Birth doc o q op → Within (2 ^ 63) (gained p op.effects)
 birth_small doc o q op p b = gained_one p b.effect op.effects b.only (within64 b.effect.delta b.fits)
 
 gained_by-within : (p : Place) (ops : List Op) → AreSmall ops → Within (length ops * 2 ^ 63) (gained_by p ops)

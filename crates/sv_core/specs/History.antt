@@ -4,7 +4,7 @@ use Rattle.sv_value.specs.declared.packets.Packet.{Packet}
 use Rattle.sv_value.specs.Cuts.{origin}
 use Rattle.sv_app.specs.declared.requests.Request.{Request}
 use Rattle.sv_app.specs.Tables.{Tables}
-use Rattle.sv_core.specs.declared.docs.Doc.{Doc}
+use Rattle.sv_core.specs.Document.{Document}
 use Rattle.sv_core.specs.declared.ops.Op.{Op}
 use Rattle.sv_core.specs.declared.entries.Entry.{Entry}
 use Rattle.sv_core.specs.declared.entries.Entry.TheVariants.{Answer, Apply}
@@ -32,15 +32,15 @@ back_to at h = drop (length h - at) h
 
 -- the operation of an answer: the changes of the run on the site's tables at the place `at`, and that cut as its deps.
 -- The tables of an earlier cut are the same in the medium of now, since a cut counts from the front.
-abbrev pub op_of : Doc → Medium → History → ℕ → ℕ → Request → Op
+abbrev pub op_of : Document → Medium → History → ℕ → ℕ → Request → Op
 op_of doc m h site at request = record {
   site = site;
   deps = as_deps (cut_of (back_to at h) site);
-  effects = (run_of request (tables_of doc.init m (cut_of (back_to at h) site))).changes;
+  effects = (run_of request (tables_of doc.init m (cut_of (back_to at h) site))).effects;
 }
 
 -- the operation that an entry publishes, with its origin
-abbrev pub news : Doc → Medium → History → Entry → Option (ℕ × Op)
+abbrev pub news : Document → Medium → History → Entry → Option (ℕ × Op)
 news doc m h (Answer session index request site at reply None) = None
 news doc m h (Answer session index request site at reply (Some packet)) = Some (origin packet, op_of doc m h site at request)
 news doc m h (Apply site packet) = None
@@ -49,12 +49,12 @@ abbrev pub with_news : Option (ℕ × Op) → Medium → Medium
 with_news None m o = m o
 with_news (Some n) m o = if o == n.0 then m o ++ n.1 ∷ [] else m o
 
-abbrev pub published : Doc → History → Medium
+abbrev pub published : Document → History → Medium
 published doc [] o = []
 published doc (e ∷ h) o = with_news (news doc (published doc h) h e) (published doc h) o
 
 -- a site's tables
-abbrev pub tables_at : Doc → History → ℕ → Tables
+abbrev pub tables_at : Document → History → ℕ → Tables
 tables_at doc h s = tables_of doc.init (published doc h) (cut_of h s)
 
 -- how many requests were answered, and how many of one session

@@ -1,5 +1,6 @@
 pub mod Applied
 pub mod Cut
+pub mod Document
 pub mod History
 pub mod Legal
 pub mod Rows
@@ -7,3 +8,4 @@ pub mod Run
 pub mod Sound
 pub mod TablesOfCut
 pub mod Within
+pub mod World

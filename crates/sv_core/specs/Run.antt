@@ -10,16 +10,12 @@ use Rattle.sv_app.specs.declared.requests.Arg.TheVariants.{Int as IntArg}
 use Rattle.sv_app.specs.declared.requests.Request.{Request}
 use Rattle.sv_app.specs.Tables.{Row, Tables}
 use Rattle.sv_core.specs.declared.ops.RowEffect.{RowEffect}
+use Rattle.sv_core.specs.declared.runs.Ran.{Ran}
 use Rattle.sv_core.specs.declared.entries.Outcome.{Outcome}
 use Rattle.sv_core.specs.declared.entries.Outcome.TheVariants.{Done, NoRow, Range}
 
--- what a run gives: its outcome, and its changes, none where it isn't done
-pub record Ran : Type 0 where
-  pub outcome : Outcome
-  pub changes : List RowEffect
-
 abbrev pub ends : Outcome → Ran
-ends outcome = record { outcome = outcome; changes = [] }
+ends outcome = record { outcome = outcome; effects = [] }
 
 -- the first and the second argument
 abbrev pub first_arg : List Arg → ℤ
@@ -44,7 +40,7 @@ abbrev pub run_at : Place → ℤ → Option Row → Ran
 run_at p by None = ends NoRow
 run_at p by (Some row) =
     if fits64 row.count && fits64 (row.count +ℤ by)
-    then record { outcome = Done; changes = record { table = p.table; key = p.key; delta = by } ∷ [] }
+    then record { outcome = Done; effects = record { table = p.table; key = p.key; delta = by } ∷ [] }
     else ends Range
 
 abbrev pub run_of : Request → Tables → Ran

@@ -3,7 +3,7 @@ use Rattle.std.specs.Prelude.{◌≡◌, ℕ, ◌<◌, ◌≤◌, ◌^◌, pos, 
 use Rattle.sv_value.specs.declared.values.Val.{Val}
 use Rattle.sv_value.specs.declared.values.Val.TheVariants.{Int}
 use Rattle.sv_app.specs.declared.requests.InitRow.{InitRow}
-use Rattle.sv_core.specs.declared.docs.Doc.{Doc}
+use Rattle.sv_core.specs.Document.{Document}
 use Rattle.sv_core.specs.TablesOfCut.{init_place, init_count, is_place}
 use Rattle.sv_core.specs.Run.{fits64, key_of}
 
@@ -22,9 +22,9 @@ abbrev pub AreDistinct : List InitRow → Type 0
 AreDistinct [] = Unit {0}
 AreDistinct (row ∷ rows) = All (λ other. init_place row ≡ init_place other → ⊥) rows × AreDistinct rows
 
-pub record Sound (doc : Doc) : Type 0 where
-  pub tables : length doc.app.tables.items ≡ 1
-  pub txns : length doc.app.txns.items ≤ 32
+pub record Sound (doc : Document) : Type 0 where
+  pub tables : doc.tables ≡ 1
+  pub txns : doc.txns ≤ 32
   pub rows : All IsInitRow doc.init
   pub few : length doc.init ≤ 1024
   pub distinct : AreDistinct doc.init

@@ -5,8 +5,10 @@ mod docs;
 mod entries;
 mod ops;
 mod rows;
+mod runs;
 
 pub use docs::Doc;
 pub use entries::{Delivered, Entry, Outcome, Reply};
 pub use ops::{Op, RowEffect};
 pub use rows::{KeptRow, Rows};
+pub use runs::Ran;
