@@ -20,7 +20,7 @@ use Rattle.sv_core.specs.Applied.{place_of}
 use Rattle.sv_core.specs.TablesOfCut.{is_place, init_place, initial, gained_in, named_by, named_to, tables_of}
 use Rattle.sv_core.specs.declared.entries.Outcome.TheVariants.{Done, Range}
 use Rattle.sv_core.specs.declared.runs.Ran.{Ran}
-use Rattle.sv_core.specs.Run.{ends, run_at, run_of, place_asked, second_arg, fits64}
+use Rattle.sv_core.specs.Run.{ends, run_at, run_of, place_asked, change_asked, second_arg, fits64}
 use Rattle.sv_core.specs.History.{History, cut_of, back_to, op_of, news, published, tables_at}
 use Rattle.sv_core.specs.Legal.{Legal, IsAnswer, IsPacket, FitsDoc}
 use Rattle.sv_core.proofs.ListLaws.{get_taken}
@@ -39,24 +39,21 @@ abbrev pub init_places : Document → List Place
 init_places doc = map init_place doc.init
 
 -- the one change of a run that changes anything
-pub record OneChange (p : Place) (by : ℤ) (o : Option Row) (changes : List RowEffect) : Type 0 where
+pub record OneChange (request : Request) (o : Option Row) (effects : List RowEffect) : Type 0 where
   pub row : Row
   pub stands : o ≡ Some row
-  pub effect : RowEffect
-  pub only : changes ≡ effect ∷ []
-  pub at : place_of effect ≡ p
-  pub delta : effect.delta ≡ by
+  pub only : effects ≡ change_asked request ∷ []
 
-pub run_one : (doc : Document) (h : History) (site at : ℕ) (p : Place) (by : ℤ) (o : Option Row) (packet : Packet)
-    → IsPacket doc h site at (run_at p by o).effects (Some packet) → OneChange p by o (run_at p by o).effects
-run_one doc h site at p by None packet named = absurd cc
-run_one doc h site at p by (Some row) packet named = split (fits64 row.count && fits64 (row.count +ℤ by)) named
+pub run_one : (doc : Document) (h : History) (site at : ℕ) (request : Request) (o : Option Row) (packet : Packet)
+    → IsPacket doc h site at (run_at request o).effects (Some packet) → OneChange request o (run_at request o).effects
+run_one doc h site at request None packet named = absurd cc
+run_one doc h site at request (Some row) packet named = split (fits64 row.count && fits64 (row.count +ℤ second_arg request.args)) named
   where
     ran : Bool → Ran
-    ran b = if b then record { outcome = Done; effects = record { table = p.table; key = p.key; delta = by } ∷ [] } else ends Range
+    ran b = if b then record { outcome = Done; effects = change_asked request ∷ [] } else ends Range
 
-    split : (b : Bool) → IsPacket doc h site at (ran b).effects (Some packet) → OneChange p by (Some row) (ran b).effects
-    split true named = record { row = row; stands = refl; effect = record { table = p.table; key = p.key; delta = by }; only = refl; at = refl; delta = refl }
+    split : (b : Bool) → IsPacket doc h site at (ran b).effects (Some packet) → OneChange request (Some row) (ran b).effects
+    split true named = record { row = row; stands = refl; only = refl }
     split false named = absurd cc
 
 -- what is known of a published operation
@@ -131,10 +128,10 @@ born doc h session index request site at reply packet some eight legal known a =
   site_is = sym next.origin_is;
   deps_own = (λ i. counts (as_deps (cut_of (now i) site)) (origin packet)) ∙ (λ i. counts_cut doc h some eight legal site i (origin packet)) ∙ (λ i. cut_of h site (next.origin_is i)) ∙ own doc h legal site
       ∙ (λ i. length (published doc h (sym next.origin_is i)));
-  effect = one.effect;
+  effect = change_asked request;
   only = ap (λ t. (run_of request t).effects) (sym tables) ∙ one.only;
-  known = subst (λ p. among p (init_places doc) ≡ true) (sym one.at) (row_known doc (published doc h) (cut_of h site) known (place_asked request) one.row (ap (λ t. get t (place_asked request)) here ∙ one.stands));
-  fits = subst (λ n. IsTrue (fits64 n)) (sym one.delta) a.fits.second;
+  known = row_known doc (published doc h) (cut_of h site) known (place_asked request) one.row (ap (λ t. get t (place_asked request)) here ∙ one.stands);
+  fits = a.fits.second;
 }
   where
     next : IsNextBlue doc h site packet
@@ -143,8 +140,8 @@ born doc h session index request site at reply packet some eight legal known a =
     now : back_to at h ≡ h
     now = back_to_now at h a.place
 
-    one : OneChange (place_asked request) (second_arg request.args) (get (tables_at doc (back_to at h) site) (place_asked request)) (run_of request (tables_at doc (back_to at h) site)).effects
-    one = run_one doc h site at (place_asked request) (second_arg request.args) (get (tables_at doc (back_to at h) site) (place_asked request)) packet a.named
+    one : OneChange request (get (tables_at doc (back_to at h) site) (place_asked request)) (run_of request (tables_at doc (back_to at h) site)).effects
+    one = run_one doc h site at request (get (tables_at doc (back_to at h) site) (place_asked request)) packet a.named
 
     here : tables_of doc.init (published doc h) (cut_of h site) ≡ tables_at doc (back_to at h) site
     here = λ i. tables_at doc (sym now i) site

@@ -4,6 +4,7 @@ pub mod HistoryLaws
 pub mod InitLaws
 pub mod ListLaws
 pub mod MediumLaws
+pub mod MissingLaws
 pub mod PlaceListLaws
 pub mod RoomLaws
 pub mod RowLaws

@@ -4,8 +4,10 @@
 mod docs;
 mod entries;
 mod ops;
+mod readiness;
 mod rows;
 mod runs;
+mod sites;
 
 pub use docs::Doc;
 pub use entries::{Delivered, Entry, Outcome, Reply};
