@@ -2,6 +2,10 @@
 use Rattle.std.specs.Prelude.{Option, Result, ◌≡◌, ℕ, ◌<◌, ◌≤◌, List, ◌++◌, length, take, drop, ⊤, None, Some, IfSome, MatchResult}
 use Rattle.std.specs.Io.KnownBytes.{Consumes, IsAtEnd}
 
+-- the most bytes of an input
+abbrev pub most_bytes : ℕ
+most_bytes = 1048576
+
 -- a read gives the first of the bytes left, none of them only at the end or into an empty buffer; a failed one leaves them
 abbrev pub GivesFront : {E : Type 0} → Option (List ℕ) → Option (List ℕ) → Result ℕ E → List ℕ → Type 0
 GivesFront old new result buf = MatchResult result (λ count. Consumes old new (take count buf) × (count ≡ 0 → 0 < length buf → IsAtEnd new)) (λ _. new ≡ old)

@@ -23,3 +23,6 @@ pub use sources::Source;
 pub use std_sinks::StdSink;
 pub use std_sources::StdSource;
 pub use writing::write_all;
+
+#[cfg(test)]
+mod tests;

@@ -41,9 +41,9 @@ impl MemSink {
     pub fn new(alloc: Global, room: usize, step: usize, fail: &[u32]) -> Result<MemSink, NoMemory>
         requires { 1 ≤ step }
         ensures { IfOk result (λ sink. sink ≡ record {
-            held = record { bytes = []; room = room };
-            step = step;
-            calls = record { fail = fail.now; made = 0; faults = 0 };
+          held = record { bytes = []; room = room };
+          step = step;
+          calls = record { fail = fail.now; made = 0; faults = 0 };
         }) }
     {
         Ok(MemSink {

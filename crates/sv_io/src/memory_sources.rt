@@ -37,12 +37,17 @@ impl MemSource {
     /// # Errors
     ///
     /// `NoMemory` where there is none for a copy of the bytes and of `fail`.
-    pub fn new(alloc: Global, bytes: &[u8], step: usize, fail: &[u32]) -> Result<MemSource, NoMemory>
+    pub fn new(
+        alloc: Global,
+        bytes: &[u8],
+        step: usize,
+        fail: &[u32],
+    ) -> Result<MemSource, NoMemory>
         requires { 1 ≤ step }
         ensures { IfOk result (λ source. source ≡ record {
-            left = bytes.now;
-            step = step;
-            calls = record { fail = fail.now; made = 0; faults = 0 };
+          left = bytes.now;
+          step = step;
+          calls = record { fail = fail.now; made = 0; faults = 0 };
         }) }
     {
         Ok(MemSource {

@@ -1,7 +1,7 @@
 ghost use Rattle.std.specs.Prelude.{◌≡◌, ◌+◌, ◌≤◌, ◌<◌, length, IfOk, OnOk, OnErr, IfSome, IsErrOf};
 ghost use Rattle.std.specs.Io.KnownBytes.{IsAtEnd};
 ghost use Rattle.sv_io.specs.Faults.{Rose};
-ghost use Rattle.sv_io.specs.Flows.{Passed, PassedUpTo};
+ghost use Rattle.sv_io.specs.Flows.{Passed, PassedUpTo, most_bytes};
 
 use crate::faults::Failed;
 use crate::sources::Source;
@@ -9,7 +9,7 @@ use std::alloc::Global;
 use thiserror::Error;
 
 /// The most bytes of an input.
-pub const MOST_BYTES: usize = 1_048_576;
+const MOST_BYTES: usize = 1_048_576;
 
 /// The most bytes asked for at once.
 const PIECE: usize = 4_096;
@@ -38,10 +38,10 @@ pub enum ReadError {
 pub fn read_all<S: Source>(alloc: Global, input: &mut S) -> Result<Vec<u8>, ReadError>
     ensures bytes { IfOk result (λ read. IfSome (S.left input.old) (λ bytes. read.items ≡ bytes)) }
     ensures end { OnOk result (IsAtEnd (S.left input.new)) }
-    ensures short { IfOk result (λ read. length read.items ≤ MOST_BYTES) }
+    ensures short { IfOk result (λ read. length read.items ≤ most_bytes) }
     ensures passed { IfOk result (λ read. Passed (S.left input.old) (S.left input.new) (length read.items)) }
-    ensures long { IsErrOf result ReadError.TooLong → Passed (S.left input.old) (S.left input.new) (MOST_BYTES + 1) }
-    ensures err { OnErr result (PassedUpTo (S.left input.old) (S.left input.new) (MOST_BYTES + 1)) }
+    ensures long { IsErrOf result ReadError.TooLong → Passed (S.left input.old) (S.left input.new) (most_bytes + 1) }
+    ensures err { OnErr result (PassedUpTo (S.left input.old) (S.left input.new) (most_bytes + 1)) }
     ensures count { S.faults input.old ≤ S.faults input.new }
     ensures failed { IsErrOf result ReadError.Failed → Rose (S.faults input.old) (S.faults input.new) }
 {
