@@ -2,6 +2,7 @@
 #![tactic(auto)]
 
 mod cuts;
+mod integers;
 mod lists;
 mod memory;
 mod names;
@@ -10,10 +11,13 @@ mod padded;
 mod sites;
 mod spots;
 mod stamps;
+#[cfg(test)]
+mod tests;
 mod texts;
 mod values;
 
 pub use cuts::Cut;
+pub use integers::put_int;
 pub use lists::List;
 pub use memory::NoMemory;
 pub use names::Name;

@@ -1,0 +1,9 @@
+pub mod BirthLaws
+pub mod CutLaws
+pub mod HistoryLaws
+pub mod ListLaws
+pub mod MediumLaws
+pub mod PlaceListLaws
+pub mod SumLaws
+pub mod TableLaws
+pub mod RoomLaws

@@ -1,0 +1,33 @@
+-- A sound document: initial rows with distinct keys that fit the one table, 1 to 8 sites, and no more than the limits allow.
+use Rattle.std.specs.Prelude.{◌≡◌, ℕ, ◌<◌, ◌≤◌, ◌^◌, pos, neg_ℤ, ◌≤ℤ◌, ◌<ℤ◌, ℤ, List, [], ◌∷◌, length, map, AllPairs, All, IsTrue, None}
+use Rattle.sv_value.specs.declared.values.Val.{Val}
+use Rattle.sv_value.specs.declared.values.Val.TheVariants.{Int}
+use Rattle.sv_app.specs.declared.requests.InitRow.{InitRow}
+use Rattle.sv_core.specs.declared.docs.Doc.{Doc}
+use Rattle.sv_core.specs.TablesOfCut.{init_place, init_count, is_place}
+use Rattle.sv_core.specs.Run.{fits64, key_of}
+
+-- a row of the one table: an integer key, which its first column repeats, and a counter within 64 bits
+pub record IsInitRow (row : InitRow) : Type 0 where
+  pub key : ℤ
+  pub count : ℤ
+  pub table : row.table ≡ 0
+  pub named : row.key ≡ key_of key
+  pub values : row.values ≡ Int key ∷ Int count ∷ []
+  pub key_fits : IsTrue (fits64 key)
+  pub count_fits : IsTrue (fits64 count)
+
+-- no two initial rows stand at one place
+abbrev pub AreDistinct : List InitRow → Type 0
+AreDistinct [] = Unit {0}
+AreDistinct (row ∷ rows) = All (λ other. init_place row ≡ init_place other → ⊥) rows × AreDistinct rows
+
+pub record Sound (doc : Doc) : Type 0 where
+  pub tables : length doc.app.tables.items ≡ 1
+  pub txns : length doc.app.txns.items ≤ 32
+  pub rows : All IsInitRow doc.init
+  pub few : length doc.init ≤ 1024
+  pub distinct : AreDistinct doc.init
+  pub some : 1 ≤ doc.sites
+  pub sites : doc.sites ≤ 8
+  pub asks : doc.asks ≤ 8192
