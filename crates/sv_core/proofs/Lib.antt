@@ -7,6 +7,7 @@ pub mod ListedLaws
 pub mod MediumLaws
 pub mod MissingLaws
 pub mod PlaceListLaws
+pub mod PlainTableLaws
 pub mod RoomLaws
 pub mod RowLaws
 pub mod StepLaws

@@ -3,6 +3,7 @@ pub mod Cut
 pub mod Document
 pub mod History
 pub mod Legal
+pub mod Plain
 pub mod Rows
 pub mod Run
 pub mod Sound

@@ -4,6 +4,7 @@
 mod docs;
 mod entries;
 mod ops;
+mod plain_tables;
 mod readiness;
 mod rows;
 mod runs;
@@ -13,6 +14,7 @@ mod world;
 pub use docs::Doc;
 pub use entries::{Delivered, Entry, Outcome, Reply};
 pub use ops::{Op, RowEffect};
+pub use plain_tables::tables_of_cut;
 pub use rows::{KeptRow, Rows};
 pub use runs::Ran;
 pub use world::World;

@@ -55,11 +55,11 @@ fn search(kept: &[KeptRow], place: &Place) -> Result<usize, usize>
 }
 
 /// The counter of an initial row: its second column.
-fn init_count(values: &[Val]) -> i128
+pub(crate) fn init_count(values: &[Val]) -> i64
     ensures { result ≡ init_count values.now }
 {
     match values {
-        [_, Val::Int(count)] => *count as i128,
+        [_, Val::Int(count)] => *count,
         _ => 0,
     }
 }
@@ -73,7 +73,7 @@ fn kept_init(row: &InitRow) -> KeptRow
             table: row.table,
             key: row.key,
         },
-        count: init_count(row.values.items()),
+        count: init_count(row.values.items()) as i128,
     }
 }
 
@@ -140,7 +140,7 @@ impl Rows {
     }
 
     /// Keeps a row, in place of the one that stood at its place.
-    fn put(&mut self, row: KeptRow) -> Result<(), NoMemory>
+    pub(crate) fn put(&mut self, row: KeptRow) -> Result<(), NoMemory>
         ensures ok { OnOk result (self.new ≡ map_of.insert self.old row.place (row_of row)) }
         ensures err { OnErr result (self.new ≡ self.old) }
     {
