@@ -1,8 +1,9 @@
 -- The tables of a cut from one list of all held changes.
-use Rattle.std.proofs.Common.{◌≡◌, ℕ, zero, suc, ◌+◌, ◌<◌, ◌||◌, if◌then◌else◌, cond, Bool, true, false, List, [], ◌∷◌, ◌++◌, length, take, get_or, Option, Some, None, refl, sym, ap, ◌∙◌, arith, append_assoc}
-use Rattle.std.specs.Prelude.{ℤ, pos, ◌+ℤ◌, map}
+use Rattle.std.proofs.Common.{◌≡◌, ℕ, zero, suc, ◌+◌, ◌<◌, ◌||◌, if◌then◌else◌, cond, Bool, true, false, List, [], ◌∷◌, ◌++◌, length, take, drop, get_or, Option, Some, None, refl, sym, ap, ◌∙◌, arith}
+use Rattle.std.specs.Prelude.{ℤ, pos, ◌+ℤ◌, ◌*◌, ◌^◌, map}
+use lib.Signed.{mag}
 use Rattle.std.proofs.lemmas.Int.{ints}
-use Rattle.std.proofs.lemmas.List.{take_more}
+use Rattle.std.proofs.lemmas.List.{take_more, drop_more}
 use Rattle.std.proofs.lemmas.Map.Views.{tells_apart}
 use Rattle.std.specs.FinMap.{get, insert, get-insert, same_map}
 use Rattle.sv_app.specs.declared.places.Place.{Place}
@@ -11,10 +12,11 @@ use Rattle.sv_app.specs.Tables.{place_cmp, Row, Tables}
 use Rattle.sv_app.proofs.PlaceLaws.{place_total, exact_places}
 use Rattle.sv_core.specs.declared.ops.RowEffect.{RowEffect}
 use Rattle.sv_core.specs.declared.ops.Op.{Op}
-use Rattle.sv_core.specs.Cut.{Medium}
+use Rattle.sv_core.specs.Cut.{Cut, Medium, held}
 use Rattle.sv_core.specs.Applied.{place_of}
-use Rattle.sv_core.specs.Plain.{changes_by, changes_to}
+use Rattle.sv_core.specs.Plain.{medium_of, changes_by, changes_to, row_by}
 use Rattle.sv_core.specs.TablesOfCut.{is_place, init_place, initial, gained, gained_by, gained_in, sum_to, named_by, named_to, tables_by, tables_held}
+use Rattle.sv_core.specs.Within.{Within}
 use Rattle.sv_core.proofs.PlaceListLaws.{among, among-append}
 use Rattle.sv_core.proofs.TableLaws.{get-tables_by}
 
@@ -44,19 +46,24 @@ unfolding changes_to named_to
 named-to m zero = refl
 named-to m (suc n) = map-append (changes_to m n) (changes_by (m n)) ∙ (λ i. named-to m n i ++ named-by (m n) i)
 
--- one origin more; no red operation stands
-pub changes_none : (m : Medium) → m 0 ≡ [] → changes_to m 1 ≡ []
+-- no red operation stands, and one site more
+none_taken : (n : ℕ) (ops : List Op) → ops ≡ [] → take n ops ≡ []
+none_taken zero ops e = refl
+none_taken (suc n) [] e = refl
+none_taken (suc n) (op ∷ ops) e = absurd cc
+
+pub changes_none : (lists : List (List Op)) (cut : Cut) → changes_to (held (medium_of lists) cut) 1 ≡ []
 unfolding changes_to
-changes_none m none = ap changes_by none
+changes_none lists cut = ap changes_by (none_taken (cut 0) [] refl)
 
-pub changes_more : (m : Medium) (n : ℕ) → changes_to m (n + 1) ≡ changes_to m n ++ changes_by (m n)
+pub changes_more : (m : Medium) (place : ℕ) (before now : List RowEffect) (ops : List Op) → before ≡ changes_to m (place + 1) → ops ≡ m (suc place) → now ≡ before ++ changes_by ops → now ≡ changes_to m (place + 1 + 1)
 unfolding changes_to
-changes_more m n = let e : n + 1 ≡ suc n = omega arith in ap (changes_to m) e
+changes_more m place before now ops was is e =
+    let one : place + 1 ≡ suc place = omega arith in
+    let two : suc (suc place) ≡ place + 1 + 1 = omega arith in
+    e ∙ (λ i. (was ∙ ap (changes_to m) one) i ++ changes_by (is i)) ∙ ap (changes_to m) two
 
--- the rows that the changes of a list give
-abbrev pub row_by : List InitRow → List RowEffect → Place → Row
-row_by init es p = record { count = initial p init +ℤ gained p es }
-
+-- the query over the one list is that over the family of lists
 pub held_is : (init : List InitRow) (m : Medium) → tables_by (map init_place init ++ map place_of (changes_to m 9)) (row_by init (changes_to m 9)) ≡ tables_held init m
 held_is init m = λ i. tables_by (map init_place init ++ named-to m 9 i) (λ p. record { count = initial p init +ℤ gained-to p m 9 i })
 
@@ -76,5 +83,17 @@ tables_by-push ps row p = same_map place_total exact_places (tables_by (ps ++ p 
     ∙ ap (λ b. if b then Some (row q) else None) (among-last q ps p)
     ∙ sym (get-tables_by (p ∷ ps) row q))
 
-pub tables_by-more : (ps : List Place) (row : Place → Row) (i : ℕ) (d : Place) → i < length ps → insert (tables_by (take i ps) row) (get_or ps i d) (row (get_or ps i d)) ≡ tables_by (take (i + 1) ps) row
-tables_by-more ps row i d lt = sym (tables_by-push (take i ps) row (get_or ps i d)) ∙ ap (λ l. tables_by l row) (sym (take_more ps i d lt))
+pub tables_by-more : (ps : List Place) (row : Place → Row) (i : ℕ) (p : Place) → i < length ps → p ≡ get_or ps i p → insert (tables_by (take i ps) row) p (row p) ≡ tables_by (take (i + 1) ps) row
+tables_by-more ps row i p lt is =
+    sym (tables_by-push (take i ps) row p) ∙ ap (λ q. tables_by (take i ps ++ q ∷ []) row) is ∙ ap (λ l. tables_by l row) (sym (take_more ps i p lt))
+
+-- one change more
+pub gained_more : (p : Place) (es : List RowEffect) (i : ℕ) (e : RowEffect) (before gain now : ℤ) → i < length es → e ≡ get_or es i e
+    → gain ≡ (if is_place p (place_of e) then e.delta else pos 0) → now ≡ (before +ℤ gain) → (before +ℤ gained p (drop i es)) ≡ gained p es → (now +ℤ gained p (drop (i + 1) es)) ≡ gained p es
+gained_more p es i e before gain now lt is g n rest =
+    let next : drop i es ≡ e ∷ drop (i + 1) es = drop_more es i e lt ∙ ap (λ x. x ∷ drop (i + 1) es) (sym is) in
+    let step : gained p (drop i es) ≡ ((if is_place p (place_of e) then e.delta else pos 0) +ℤ gained p (drop (i + 1) es)) = ap (gained p) next in
+    omega (arith, ints, step, g, n, rest)
+
+pub Within_more : (i : ℕ) (before gain now : ℤ) → Within (i * 2 ^ 63) before → mag gain < 2 ^ 63 → now ≡ (before +ℤ gain) → Within ((i + 1) * 2 ^ 63) now
+Within_more i before gain now w g n = record { low = omega (arith, ints, w.low, g, n); high = omega (arith, ints, w.high, g, n) }

@@ -1,6 +1,10 @@
 -- What the plain program has at hand: the lists of the sites' blue operations as a medium, and all changes of held operations in one list.
-use Rattle.std.specs.Prelude.{◌≡◌, ℕ, zero, suc, List, [], ◌++◌, get_or}
+use Rattle.std.specs.Prelude.{◌≡◌, ℕ, zero, suc, ◌+ℤ◌, List, [], ◌++◌, get_or}
 use Rattle.std.specs.List.{flat_map}
+use Rattle.sv_app.specs.declared.places.Place.{Place}
+use Rattle.sv_app.specs.declared.requests.InitRow.{InitRow}
+use Rattle.sv_app.specs.Tables.{Row}
+use Rattle.sv_core.specs.TablesOfCut.{initial, gained}
 use Rattle.sv_core.specs.declared.ops.RowEffect.{RowEffect}
 use Rattle.sv_core.specs.declared.ops.Op.{Op}
 use Rattle.sv_core.specs.Document.{Document}
@@ -20,6 +24,10 @@ changes_by ops = flat_map (λ op. op.effects) ops
 unfoldable pub changes_to : Medium → ℕ → List RowEffect
 changes_to m zero = []
 changes_to m (suc n) = changes_to m n ++ changes_by (m n)
+
+-- the row of a place: its initial value and what these changes add
+abbrev pub row_by : List InitRow → List RowEffect → Place → Row
+row_by init es p = record { count = initial p init +ℤ gained p es }
 
 -- the history is legal, and these are the lists that it published
 pub record Told (doc : Document) (h : History) (lists : List (List Op)) : Type 0 where

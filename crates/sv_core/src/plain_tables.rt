@@ -2,7 +2,7 @@ ghost use Rattle.std.specs.Prelude.{◌≡◌, ◌+◌, ◌*◌, ◌^◌, ◌<�
 ghost use Rattle.sv_value.specs.Cuts.{counts};
 ghost use Rattle.sv_core.specs.Applied.{place_of};
 ghost use Rattle.sv_core.specs.Cut.{held};
-ghost use Rattle.sv_core.specs.Plain.{medium_of, changes_by, changes_to};
+ghost use Rattle.sv_core.specs.Plain.{medium_of, changes_by, changes_to, row_by};
 ghost use Rattle.sv_core.specs.Rows.{row_of};
 ghost use Rattle.sv_core.specs.TablesOfCut.{is_place, init_place, initial, gained, tables_by, tables_of};
 ghost use Rattle.sv_core.specs.Within.{Within};
@@ -77,7 +77,7 @@ fn gained(place: &Place, changes: &[RowEffect]) -> i128
 /// The row of a place: its initial value and what it gains.
 fn row_at(place: &Place, init: &[InitRow], changes: &[RowEffect]) -> KeptRow
     ensures place { result.place ≡ place.now }
-    ensures count { row_of result ≡ record { count = initial place.now init.now +ℤ gained place.now changes.now } }
+    ensures count { row_of result ≡ row_by init.now changes.now place.now }
 {
     KeptRow {
         place: *place,
@@ -127,15 +127,23 @@ fn places(alloc: Global, init: &[InitRow], changes: &[RowEffect]) -> Result<Vec<
         .collect(alloc)?)
 }
 
+/// A row for each of the places.
+fn rows_at(alloc: Global, places: &[Place], init: &[InitRow], changes: &[RowEffect]) -> Result<Rows, NoMemory>
+    ensures { IfOk result (λ rows. rows ≡ tables_by places.now (row_by init.now changes.now)) }
+{
+    let mut rows = Rows::new(alloc);
+    for place in places {
+        rows.put(row_at(place, init, changes))?;
+    }
+    Ok(rows)
+}
+
 /// The tables of a cut of these lists of the sites' operations, site 1 first: a row for each place of an initial row or
 /// of a held change, with its initial value and the sum of all held deltas.
 pub fn tables_of_cut(alloc: Global, init: &[InitRow], published: &[Vec<Op>], cut: &Cut) -> Result<Rows, NoMemory>
     ensures { IfOk result (λ rows. rows ≡ tables_of init.now (medium_of (map (λ ops. ops.items) published.now)) (counts cut.now)) }
 {
     let changes = changes_held(alloc, published, cut)?;
-    let mut rows = Rows::new(alloc);
-    for place in &places(alloc, init, &changes)? {
-        rows.put(row_at(place, init, &changes))?;
-    }
-    Ok(rows)
+    let places = places(alloc, init, &changes)?;
+    rows_at(alloc, &places, init, &changes)
 }
