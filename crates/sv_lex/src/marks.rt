@@ -1,0 +1,25 @@
+/// A mark: one of the punctuation signs of a document.
+#[derive(Clone, Copy, Debug, PartialEq, Eq)]
+pub enum Mark {
+    LeftParen,
+    RightParen,
+    LeftBrace,
+    RightBrace,
+    LeftBracket,
+    RightBracket,
+    Comma,
+    Semi,
+    Dot,
+    Colon,
+    Eq,
+    Ne,
+    Lt,
+    Le,
+    Gt,
+    Ge,
+    Plus,
+    Minus,
+    Star,
+    At,
+    Percents,
+}
