@@ -8,9 +8,13 @@ is_line_feed byte = byte == 10
 abbrev pub is_in_line : ℕ → Bool
 is_in_line byte = not (is_line_feed byte)
 
--- how many line feeds stand before a place, and how many bytes stand before it since the last of them
-abbrev pub spot_at : List ℕ → ℕ → Spot
-spot_at bytes at = record {
-  line = 1 + count_by is_line_feed (take at bytes);
-  col = 1 + length (take_while is_in_line (reverse (take at bytes)));
+-- the place past these bytes: how many line feeds are in them, and how many bytes come after the last of these
+unfoldable pub spot_past : List ℕ → Spot
+spot_past bytes = record {
+  line = 1 + count_by is_line_feed bytes;
+  col = 1 + length (take_while is_in_line (reverse bytes));
 }
+
+-- the line and the column of a place
+abbrev pub spot_at : List ℕ → ℕ → Spot
+spot_at bytes at = spot_past (take at bytes)

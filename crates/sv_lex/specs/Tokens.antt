@@ -54,15 +54,25 @@ abbrev pub mark_piece : ℕ → Option Mark → Piece
 mark_piece at None = Wrong (BadByte at)
 mark_piece at (Some mark) = Whole (kinds.Mark mark) (length (mark_bytes mark))
 
--- what begins at a place, where this byte and these others follow
-unfoldable pub piece : ℕ → ℕ → List ℕ → Piece
-piece at byte rest =
-    if is_white byte then Gap 1
-    else if byte == 35 then Gap (length (take_through 10 (byte ∷ rest)))
-    else if is_letter byte then name_piece at (take_while is_name_byte (byte ∷ rest))
+-- how many bytes the white space or the comment has that begins with this byte before the others
+abbrev pub gap_at : ℕ → List ℕ → Option ℕ
+gap_at byte rest = if is_white byte then Some 1 else if byte == 35 then Some (length (take_through 10 (byte ∷ rest))) else None
+
+-- the token that begins at a place with this byte before the others
+unfoldable pub token_at : ℕ → ℕ → List ℕ → Piece
+token_at at byte rest =
+    if is_letter byte then name_piece at (take_while is_name_byte (byte ∷ rest))
     else if is_digit byte then number_piece at (take_while is_digit (byte ∷ rest))
     else if byte == 39 then text_piece at (take_while is_text_byte rest) (drop (length (take_while is_text_byte rest)) rest)
     else mark_piece at (longest_mark (byte ∷ rest))
+
+abbrev pub gap_or : Option ℕ → Piece → Piece
+gap_or (Some len) token = Gap len
+gap_or None token = token
+
+-- what begins at a place with this byte before the others
+abbrev pub piece_at : ℕ → ℕ → List ℕ → Piece
+piece_at at byte rest = gap_or (gap_at byte rest) (token_at at byte rest)
 
 abbrev pub piece_length : Piece → ℕ
 piece_length (Gap len) = len
@@ -84,7 +94,7 @@ abbrev pub tokens_from : List ℕ → ℕ → ℕ → List ℕ → Result (List 
 tokens_from bytes at inside [] = Ok []
 tokens_from bytes at (suc inside) (byte ∷ rest) = tokens_from bytes (at + 1) inside rest
 tokens_from bytes at zero (byte ∷ rest) =
-    with_piece bytes at (piece at byte rest) (tokens_from bytes (at + 1) (piece_length (piece at byte rest) - 1) rest)
+    with_piece bytes at (piece_at at byte rest) (tokens_from bytes (at + 1) (piece_length (piece_at at byte rest) - 1) rest)
 
 -- the tokens of a document, or its first fault
 abbrev pub lexed : List ℕ → Result (List Token) Fault

@@ -1,10 +1,15 @@
 //! Cuts a document into tokens, each with its place.
 #![tactic(auto)]
 
+mod gaps;
 mod marks;
+mod numbers;
+mod runs;
+mod spots;
 mod stops;
 mod tokens;
 
 pub use marks::Mark;
+pub use spots::spot_of;
 pub use stops::LexStop;
 pub use tokens::{Token, TokenKind};
