@@ -1,3 +1,4 @@
 pub mod GapLaws
 pub mod NumberLaws
+pub mod RunLaws
 pub mod SpotLaws

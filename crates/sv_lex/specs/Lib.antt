@@ -1,3 +1,4 @@
+pub mod Lexers
 pub mod Marks
 pub mod Spots
 pub mod Tokens

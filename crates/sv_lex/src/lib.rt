@@ -1,9 +1,11 @@
 //! Cuts a document into tokens, each with its place.
 #![tactic(auto)]
 
+mod found;
 mod gaps;
 mod marks;
 mod numbers;
+mod pieces;
 mod runs;
 mod spots;
 mod stops;
