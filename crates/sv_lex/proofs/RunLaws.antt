@@ -28,7 +28,7 @@ text_fits xs =
     subst P (sym all) (and_true (nat_le (length (take_while is_text_byte xs)) 40))
 
 -- a letter may stand in a name
-letter_stands : (byte : ℕ) → is_letter byte ≡ true → is_name_byte byte ≡ true
+pub letter_stands : (byte : ℕ) → is_letter byte ≡ true → is_name_byte byte ≡ true
 letter_stands byte letter = rw letter refl
 
 -- a run of the bytes of a name that begins with a letter is a name, if it isn't long

@@ -1,8 +1,9 @@
-ghost use Rattle.std.specs.Prelude.{◌≡◌, ◌∷◌, length};
+ghost use Rattle.std.specs.Prelude.{◌≡◌, length};
 ghost use Rattle.std.specs.List.{prefix_len};
 ghost use Rattle.std.specs.Io.BufRead.{take_through};
 ghost use Rattle.sv_lex.specs.Spots.{is_in_line};
-ghost use Rattle.sv_lex.specs.Tokens.{is_white, gap_at};
+ghost use Rattle.sv_lex.specs.Lexers.{gap_in};
+ghost use Rattle.sv_lex.specs.Tokens.{is_white};
 
 fn is_white(byte: u8) -> bool
     ensures { result ≡ is_white byte }
@@ -26,17 +27,20 @@ fn through_line(bytes: &[u8]) -> usize
     if line < bytes.len() { line + 1 } else { line }
 }
 
-/// How many bytes of white space, or of a comment, the document begins with here.
-#[tactic(auto)]
-pub fn gap_at(first: u8, behind: &[u8], bytes: &[u8]) -> Option<usize>
-    requires { bytes.now ≡ first ∷ behind.now }
-    ensures { result ≡ gap_at first behind.now }
+/// How many bytes the white space or the comment has that the bytes begin with, if they begin with one.
+pub fn gap_in(bytes: &[u8]) -> Option<usize>
+    ensures { result ≡ gap_in bytes.now }
 {
-    if is_white(first) {
-        Some(1)
-    } else if first == b'#' {
-        Some(through_line(bytes))
-    } else {
-        None
+    match bytes {
+        [] => None,
+        [first, ..] => {
+            if is_white(*first) {
+                Some(1)
+            } else if *first == b'#' {
+                Some(through_line(bytes))
+            } else {
+                None
+            }
+        }
     }
 }

@@ -1,8 +1,9 @@
 //! Cuts a document into tokens, each with its place.
 #![tactic(auto)]
 
-mod found;
 mod gaps;
+mod lexers;
+mod lexing;
 mod marks;
 mod numbers;
 mod pieces;
@@ -11,6 +12,7 @@ mod spots;
 mod stops;
 mod tokens;
 
+pub use lexing::lex;
 pub use marks::Mark;
 pub use spots::spot_of;
 pub use stops::LexStop;

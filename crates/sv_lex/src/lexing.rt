@@ -1,0 +1,24 @@
+ghost use Rattle.std.specs.Prelude.{◌≡◌, ◌≤◌, Ok, Err, length, IfOk, IfErr, IfSome};
+ghost use Rattle.sv_lex.specs.Lexers.{fault_of};
+ghost use Rattle.sv_lex.specs.Tokens.{lexed};
+
+use crate::lexers::Lexer;
+use crate::stops::LexStop;
+use crate::tokens::{Token, TokenKind};
+use std::alloc::Global;
+
+/// The tokens of a document, in order, or its first fault.
+#[tactic(auto, using(crate::proofs::FrontLaws::front))]
+pub fn lex(alloc: Global, bytes: &[u8]) -> Result<Vec<Token>, LexStop>
+    requires { length bytes.now ≤ 67108864 }
+    ensures tokens { IfOk result (λ tokens. lexed bytes.now ≡ Ok tokens.items) }
+    ensures fault { IfErr result (λ stop. IfSome (fault_of stop) (λ fault. lexed bytes.now ≡ Err fault)) }
+{
+    let _kinds: Option<TokenKind> = None;
+    let mut lexer = Lexer::new(bytes);
+    let mut tokens = Vec::new(alloc);
+    while let Some(token) = lexer.next_token()? {
+        tokens.push(token)?;
+    }
+    Ok(tokens)
+}
