@@ -1,12 +1,11 @@
 -- Reading on behind a piece.
-use Rattle.std.proofs.Common.{◌≡◌, ◌∙◌, ℕ, zero, suc, ◌+◌, ◌-◌, ◌<◌, ◌≤◌, Bool, true, false, List, [], ◌∷◌, ◌++◌, length, take, drop, Option, Some, None, Result, Ok, Err, refl, sym, ap, subst, arith}
+use Rattle.std.proofs.Common.{◌≡◌, ◌∙◌, ℕ, zero, suc, ◌+◌, ◌-◌, ◌≤◌, List, [], ◌∷◌, length, drop, Option, Some, None, Ok, Err, refl, sym, ap, subst, arith}
 use Rattle.std.proofs.lemmas.List.{drop-drop, length-drop}
 use Rattle.sv_lex.specs.declared.pieces.Found.{Found}
-use Rattle.sv_lex.specs.declared.tokens.Token.{Token}
 use Rattle.sv_lex.specs.declared.tokens.TokenKind.{TokenKind}
 use Rattle.sv_lex.specs.Lexers.{FindsIn, gap_in, token_in, tokens_at}
 use Rattle.sv_lex.specs.Spots.{spot_at}
-use Rattle.sv_lex.specs.Tokens.{Fault, Piece, Whole, Wrong, Gap, gap_at, gap_or, token_at, piece_at, piece_length, with_token, with_piece, tokens_from}
+use Rattle.sv_lex.specs.Tokens.{Fault, Piece, Whole, Wrong, Gap, gap_or, token_at, piece_at, piece_length, with_token, with_piece, tokens_from}
 use Rattle.sv_lex.proofs.PieceLaws.{Takes, gap_takes, token_takes}
 
 skipped : (bytes : List ℕ) (at n : ℕ) (rest : List ℕ) → n ≤ length rest → tokens_from bytes at n rest ≡ tokens_from bytes (at + n) 0 (drop n rest)

@@ -1,3 +1,4 @@
+pub mod BlankLaws
 pub mod FrontLaws
 pub mod GapLaws
 pub mod LexLaws
@@ -6,3 +7,6 @@ pub mod NumberLaws
 pub mod PieceLaws
 pub mod RunLaws
 pub mod SpotLaws
+pub mod StandingLaws
+pub mod WrittenLaws
+pub mod WrongLaws

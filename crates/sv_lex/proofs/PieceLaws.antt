@@ -1,8 +1,8 @@
 -- How long a piece is.
-use Rattle.std.proofs.Common.{◌≡◌, ◌≢◌, ◌∙◌, ℕ, ◌+◌, ◌-◌, ◌<◌, ◌≤◌, Bool, true, false, List, [], ◌∷◌, length, take, drop, Option, Some, None, Result, Ok, Err, refl, sym, ap, subst, arith, nat_eq, nat_le, pos, if◌then◌else◌, ◌==◌, min}
+use Rattle.std.proofs.Common.{◌≡◌, ℕ, ◌+◌, ◌-◌, ◌≤◌, Bool, true, false, List, [], ◌∷◌, length, take, drop, Option, Some, None, refl, subst, arith, nat_le, if◌then◌else◌, ◌==◌, min}
 use Rattle.std.specs.Io.BufRead.{take_through}
-use Rattle.std.specs.List.{prefix_len, take_while, find, starts_with}
-use Rattle.std.proofs.lemmas.List.Sums.{take_while-cons, prefix_len-le-length}
+use Rattle.std.specs.List.{prefix_len, take_while}
+use Rattle.std.proofs.lemmas.List.Sums.{prefix_len-le-length}
 use Rattle.std.proofs.lemmas.List.Folds.{length-prefix_len}
 use Rattle.sv_value.specs.Names.{is_letter, is_digit, is_name_byte}
 use Rattle.sv_value.specs.Texts.{is_text_byte}
@@ -11,8 +11,8 @@ use Rattle.sv_lex.specs.declared.tokens.TokenKind.{TokenKind}
 use Rattle.sv_lex.specs.declared.tokens.TokenKind.TheVariants as kinds
 use Rattle.sv_lex.specs.Spots.{is_in_line}
 use Rattle.std.proofs.lemmas.List.{length-drop}
-use Rattle.sv_lex.specs.Marks.{mark_bytes, longest_mark}
-use Rattle.sv_lex.specs.Tokens.{Piece, Whole, Wrong, Gap, Fault, BadByte, LongText,  is_white, gap_at, token_at, name_piece, number_piece, text_piece, mark_piece, digits_value, begins_with_quote}
+use Rattle.sv_lex.specs.Marks.{longest_mark}
+use Rattle.sv_lex.specs.Tokens.{Piece, Whole, Wrong, Gap, Fault, BadByte, LongText, is_white, gap_at, token_at, name_piece, number_piece, text_piece, mark_piece, begins_with_quote}
 use Rattle.sv_lex.proofs.GapLaws.{length-line}
 use Rattle.sv_lex.proofs.MarkLaws.{mark_some, mark_fits}
 use Rattle.sv_lex.proofs.RunLaws.{letter_stands}

@@ -1,6 +1,6 @@
 -- Runs of bytes that pass a test.
-use Rattle.std.proofs.Common.{◌≡◌, ◌∙◌, ℕ, ◌+◌, ◌<◌, ◌≤◌, Bool, true, false, IsTrue, List, [], ◌∷◌, length, take, refl, sym, ap, subst, arith, nat_le, ◌&&◌}
-use Rattle.std.specs.List.{list_all, prefix_len, take_while}
+use Rattle.std.proofs.Common.{◌≡◌, ℕ, Bool, true, false, IsTrue, List, [], ◌∷◌, length, refl, sym, subst, nat_le, ◌&&◌}
+use Rattle.std.specs.List.{list_all, take_while}
 use Rattle.std.proofs.lemmas.List.Sums.{take_while-cons}
 use Rattle.sv_value.specs.Names.{is_letter, is_digit, is_name_byte, begins_with_letter, is_name}
 use Rattle.sv_value.specs.Texts.{is_text_byte, is_text}

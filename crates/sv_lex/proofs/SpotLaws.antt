@@ -1,6 +1,6 @@
 -- Spots move byte by byte.
-use Rattle.std.proofs.Common.{◌≡◌, ◌∙◌, ℕ, ◌+◌, ◌<◌, ◌≤◌, Bool, true, false, List, [], ◌∷◌, ◌++◌, length, take, drop, ◌-◌, min, reverse, refl, sym, ap, arith, nat_eq, cond}
-use Rattle.std.specs.List.{count_by, take_while, prefix_len}
+use Rattle.std.proofs.Common.{◌≡◌, ℕ, ◌+◌, ◌<◌, ◌≤◌, Bool, true, false, List, [], ◌∷◌, ◌++◌, length, take, drop, ◌-◌, min, reverse, refl, arith, nat_eq, cond}
+use Rattle.std.specs.List.{count_by, take_while}
 use Rattle.std.proofs.lemmas.List.{length-take, length-drop, length-reverse, reverse-append}
 use Rattle.std.proofs.lemmas.List.Folds.{length-prefix_len}
 use Rattle.std.proofs.lemmas.List.Sums.{sum_by-append, count_by-le-length, take_while-cons, prefix_len-le-length}

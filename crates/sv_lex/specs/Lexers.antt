@@ -1,5 +1,5 @@
 -- What the lexer answers, by the definition of tokens.
-use Rattle.std.specs.Prelude.{◌≡◌, ℕ, List, [], ◌∷◌, drop, Option, Some, None, Result, Ok, Err, IfSome, IsSomeAnd}
+use Rattle.std.specs.Prelude.{◌≡◌, ℕ, List, [], ◌∷◌, drop, Option, Some, None, Result, Ok, Err, IsSomeAnd}
 use Rattle.sv_lex.specs.declared.pieces.Found.{Found}
 use Rattle.sv_lex.specs.declared.stops.LexStop.{LexStop}
 use Rattle.sv_lex.specs.declared.stops.LexStop.TheVariants as stops

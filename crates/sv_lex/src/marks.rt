@@ -88,5 +88,8 @@ impl Mark {
 pub fn longest_mark(bytes: &[u8]) -> Option<Mark>
     ensures { result ≡ longest_mark bytes.now }
 {
-    MARKS.iter().copied().find(|mark| bytes.starts_with(mark.bytes()))
+    MARKS
+        .iter()
+        .copied()
+        .find(|mark| bytes.starts_with(mark.bytes()))
 }

@@ -1,3 +1,6 @@
+ghost use Rattle.std.specs.Prelude.{◌≡◌};
+ghost use Rattle.sv_lex.specs.declared.stops.LexStop.TheVariants.{NoMemory};
+
 use std::alloc::AllocFailed;
 
 /// Why a document has no list of tokens. Each place counts bytes from 0.
@@ -16,6 +19,8 @@ pub enum LexStop {
 }
 
 impl<T: Drop> From<AllocFailed<T>> for LexStop {
+    ghost from_gives = { λ _ stop. stop ≡ NoMemory };
+
     fn from(_error: AllocFailed<T>) -> LexStop {
         LexStop::NoMemory
     }

@@ -1,6 +1,4 @@
-use Rattle.std.proofs.Common.{◌≡◌, ◌∙◌, ◌+◌, ◌≤◌, sym, ap, drop, length, Some, arith}
-use Rattle.sv_lex.specs.Lexers.{token_in, tokens_at}
-use Rattle.sv_lex.specs.Tokens.{Whole}
+use Rattle.std.proofs.Common.{◌∙◌, sym, length, arith}
 use Rattle.sv_lex.proofs.LexLaws.{Moves, found_is, token_moves, at_token}
 use Rattle.sv_lex.proofs.lexers.Lexer.next_token.Goals as goal
 
@@ -20,7 +18,7 @@ pass-requires c = (token_moves c.skip_gaps.new.self.bytes.now c.skip_gaps.new.se
 pub returns-clause-gives : goal.returns-clause-gives
 returns-clause-gives c =
     rw (c.pass.ensures.bytes, c.pass.ensures.at, c.skip_gaps.new.self.placed)
-      (sym c.skip_gaps.ensures.same ∙ at_token c.skip_gaps.new.self.bytes.now c.skip_gaps.new.self.at c.in-Some.found.kind c.in-Some.found.len c.skip_gaps.ensures.none (rw (← c.rest.ensures) (found_is c.in_ok-found.field-0 c.in-Some.found c.in_ok-found.ensures c.in-Some.is)))
+    (sym c.skip_gaps.ensures.same ∙ at_token c.skip_gaps.new.self.bytes.now c.skip_gaps.new.self.at c.in-Some.found.kind c.in-Some.found.len c.skip_gaps.ensures.none (rw (← c.rest.ensures) (found_is c.in_ok-found.field-0 c.in-Some.found c.in_ok-found.ensures c.in-Some.is)))
 
 pub returns-clause-later : goal.returns-clause-later
 returns-clause-later c =

@@ -14,7 +14,7 @@ loop-count-preserved c =
     record {
       bytes = c.pass.ensures.bytes ∙ c.loop-count.invariant.bytes;
       same = rw (c.pass.ensures.bytes, c.pass.ensures.at) (sym (at_gap c.loop-count.self.bytes.now c.loop-count.self.at c.in-Some.count gap) ∙ c.loop-count.invariant.same);
-      later = omega (arith, c.pass.ensures.at, c.loop-count.invariant.later)
+      later = omega (arith, c.pass.ensures.at, c.loop-count.invariant.later);
     }
 
 pub loop-count-smaller : goal.loop-count-smaller

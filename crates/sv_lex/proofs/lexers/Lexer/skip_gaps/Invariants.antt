@@ -6,7 +6,7 @@ abbrev pub invariant-loop-count : goal.invariant-loop-count
 invariant-loop-count l = record {
   bytes : l.self.bytes.now ≡ l.initial.self.bytes.now;
   same : tokens_at l.self.bytes.now l.self.at ≡ tokens_at l.initial.self.bytes.now l.initial.self.at;
-  later : l.initial.self.at ≤ l.self.at
+  later : l.initial.self.at ≤ l.self.at;
 }
 
 abbrev pub decreases-loop-count : goal.decreases-loop-count
