@@ -4,5 +4,6 @@
 mod rounds;
 mod settling;
 mod systems;
+mod walks;
 
 pub use systems::{Answer, Diff, System, Widest};
