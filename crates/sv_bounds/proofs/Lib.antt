@@ -1,4 +1,6 @@
+pub mod ApartLaws
 pub mod ChainLaws
+pub mod DescentLaws
 pub mod FallLaws
 pub mod RoundLaws
 pub mod SettleLaws

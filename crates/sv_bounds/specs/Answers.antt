@@ -55,3 +55,7 @@ pub record IsMost (s : System) (x y : ℕ) (most : ℤ) (values : List ℤ) (cha
 abbrev pub IsWidest : System → ℕ → ℕ → Widest → Type 0
 IsWidest s x y (Most most values chain) = IsMost s x y most values chain
 IsWidest s x y Unbounded = IsUnbounded s.rows x y
+
+-- there is no greatest x - y exactly where, for each number, some assignment has more
+abbrev pub IsExact : System → ℕ → ℕ → Widest → Type 0
+IsExact s x y widest = (widest ≡ Unbounded) ↔ IsUnbounded s.rows x y

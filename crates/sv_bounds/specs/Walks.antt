@@ -31,3 +31,8 @@ pub record IsDescent (rows : List Diff) (vars : ℕ) (rounds : List (List Cell))
   pub leads : IsChain rows x chain z
   pub sum : (sum_of rows chain +ℤ value (round_at rounds r) z) ≡ value (round_at rounds top) x
   pub near : Within ((top - r) * 2 ^ 70) (sum_of rows chain)
+
+-- the rows lead from x in the round at the top down to a variable of the first round
+pub record Descends (rows : List Diff) (vars : ℕ) (rounds : List (List Cell)) (top x : ℕ) (chain : List ℕ) : Type 0 where
+  pub end : ℕ
+  pub descent : IsDescent rows vars rounds top x 0 chain end

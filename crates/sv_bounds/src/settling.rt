@@ -1,8 +1,7 @@
-ghost use Rattle.std.specs.Prelude.{◌≡◌, ◌≤◌, ◌<◌, length, All, IfOk};
+ghost use Rattle.std.specs.Prelude.{◌≡◌, ◌≤◌, ◌<◌, length, replicate, All, IfOk};
 ghost use Rattle.sv_bounds.specs.Differences.{IsRow};
-ghost use Rattle.sv_bounds.specs.Rounds.{IsStart};
-ghost use Rattle.sv_bounds.specs.Settling.{last_of, IsSettled};
-ghost use Rattle.sv_bounds.specs.Rounds.{lists};
+ghost use Rattle.sv_bounds.specs.Settling.{last_of, IsBegun, IsSettled};
+ghost use Rattle.sv_bounds.specs.Rounds.{lists, IsStart};
 
 use crate::rounds::{fallen, next_round, Cell};
 use crate::systems::Diff;
@@ -15,6 +14,22 @@ use sv_value::NoMemory;
 pub enum Settled {
     Stable(Vec<Vec<Cell>>),
     Cyclic(Vec<u32>),
+}
+
+/// Variable `y` has 0, and each other one `far`.
+pub fn begin(alloc: Global, vars: usize, y: usize, far: i128) -> Result<Vec<Cell>, NoMemory>
+    requires { y < vars }
+    ensures { IfOk result (λ cells. IsBegun vars y far cells.items) }
+{
+    let mut cells = copies(alloc, vars, Cell { value: far, by: 0 })?;
+    cells[y] = Cell { value: 0, by: 0 };
+    Ok(cells)
+}
+
+fn copies(alloc: Global, vars: usize, cell: Cell) -> Result<Vec<Cell>, NoMemory>
+    ensures { IfOk result (λ cells. cells.items ≡ replicate vars cell) }
+{
+    Ok(Vec::from_elem(alloc, cell, vars)?)
 }
 
 /// The last round.
