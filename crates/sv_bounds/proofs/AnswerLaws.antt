@@ -1,9 +1,8 @@
 -- From rounds to answers.
-use Rattle.std.proofs.Common.{◌≡◌, ◌≢◌, ◌⊎◌, inl, inr, ℕ, ◌+◌, ◌-◌, ◌^◌, ◌<◌, ◌≤◌, List, [], ◌∷◌, ◌++◌, length, get_or, All, ℤ, pos, neg_ℤ, ◌+ℤ◌, ◌-ℤ◌, ◌<ℤ◌, ◌≤ℤ◌, refl, sym, ap, subst, ◌∙◌, below_more, arith}
+use Rattle.std.proofs.Common.{◌≡◌, ℕ, ◌+◌, ◌-◌, ◌^◌, ◌<◌, ◌≤◌, List, [], ◌∷◌, ◌++◌, length, All, ℤ, pos, neg_ℤ, ◌-ℤ◌, ◌≤ℤ◌, refl, sym, ap, subst, ◌∙◌, below_more, arith}
 use Rattle.std.specs.Global.{Vec}
 use Rattle.std.proofs.lemmas.Int.{ints}
-use Rattle.std.proofs.lemmas.Bool.{cases_eq, cases_lt}
-use Rattle.std.proofs.lemmas.List.{get_or_append_left, get_or_push, get_or_past, length_push}
+use Rattle.std.proofs.lemmas.List.{get_or_append_left, get_or_push, length_push}
 use Rattle.std.proofs.lemmas.List.Elements.{All-from_get_or, All-push}
 use Rattle.sv_bounds.specs.declared.systems.Diff.{Diff}
 use Rattle.sv_bounds.specs.declared.systems.System.{System}
@@ -23,14 +22,14 @@ pub shifted_more : (cells : List Cell) (values longer : List ℤ) (x : ℕ) (v :
     → longer ≡ values ++ v ∷ [] → v ≡ (value cells x -ℤ value cells 0) → (k : ℕ) → k < x + 1 → assigned longer k ≡ (value cells k -ℤ value cells 0)
 shifted_more cells values longer x v long each more e =
     below_more (λ k. assigned longer k ≡ (value cells k -ℤ value cells 0)) x
-      (λ k l. ap (λ l. assigned l k) more ∙ get_or_append_left values (v ∷ []) (pos 0) k (omega (arith, l, long)) ∙ each k l)
-      (ap (λ l. assigned l x) more ∙ get_or_push values v (pos 0) x long ∙ e)
+    (λ k l. ap (λ l. assigned l k) more ∙ get_or_append_left values (v ∷ []) (pos 0) k (omega (arith, l, long)) ∙ each k l)
+    (ap (λ l. assigned l x) more ∙ get_or_push values v (pos 0) x long ∙ e)
 
 pub stable_near : (rows : List Diff) (start : List Cell) (rounds : List (List Cell)) → All (IsRow (length start)) rows → IsStableFrom rows start rounds → length start ≤ 65
     → (cells : List Cell) → cells ≡ last_of rounds → (z : ℕ) → Within (2 ^ 101) (value cells z)
 stable_near rows start rounds all s few cells e z =
     subst (λ c. Within (2 ^ 101) (value c z)) (sym e)
-      (near_within (length rounds - 1) (value (last_of rounds) z) (omega (arith, s.many, few)) (near_at rows (length start) rounds all s.are (length rounds - 1) (omega (arith, s.some)) z))
+    (near_within (length rounds - 1) (value (last_of rounds) z) (omega (arith, s.many, few)) (near_at rows (length start) rounds all s.are (length rounds - 1) (omega (arith, s.some)) z))
 
 pub last_long : (rows : List Diff) (start : List Cell) (rounds : List (List Cell)) (cells : List Cell) → IsStableFrom rows start rounds → cells ≡ last_of rounds → length cells ≡ length start
 last_long rows start rounds cells s e = ap length e ∙ s.are.long (length rounds - 1) (omega (arith, s.some))
@@ -40,11 +39,11 @@ pub shifted_meets : (rows : List Diff) (cells : List Cell) (values : List ℤ) �
 shifted_meets rows cells values all some stable sh = record {
   zero_first = let e : assigned values 0 ≡ (value cells 0 -ℤ value cells 0) = sh.each 0 (omega (arith, some)) in omega (arith, ints, e);
   each = All-from_get_or (Holds (assigned values)) rows no_row (λ i l.
-    let row : IsRow (length cells) (row_at rows i) = row_in (length cells) rows i all l in
-    let a : assigned values (row_at rows i).x ≡ (value cells (row_at rows i).x -ℤ value cells 0) = sh.each (row_at rows i).x row.x in
-    let b : assigned values (row_at rows i).y ≡ (value cells (row_at rows i).y -ℤ value cells 0) = sh.each (row_at rows i).y row.y in
-    let m : value cells (row_at rows i).x ≤ℤ asked rows i cells = stable i l in
-    omega (arith, ints, a, b, m));
+      let row : IsRow (length cells) (row_at rows i) = row_in (length cells) rows i all l in
+      let a : assigned values (row_at rows i).x ≡ (value cells (row_at rows i).x -ℤ value cells 0) = sh.each (row_at rows i).x row.x in
+      let b : assigned values (row_at rows i).y ≡ (value cells (row_at rows i).y -ℤ value cells 0) = sh.each (row_at rows i).y row.y in
+      let m : value cells (row_at rows i).x ≤ℤ asked rows i cells = stable i l in
+      omega (arith, ints, a, b, m));
 }
 
 pub solved : (s : System) (start cells : List Cell) (rounds : List (List Cell)) (values : List ℤ) → IsSystem s → length start ≡ s.vars → IsStableFrom s.rows start rounds → cells ≡ last_of rounds

@@ -1,11 +1,11 @@
 -- Where no rows lead from x to y: the variables near zero can all be lowered by one number.
-use Rattle.std.proofs.Common.{◌≡◌, ◌⊎◌, inl, inr, ℕ, ◌+◌, ◌*◌, ◌^◌, ◌<◌, ◌≤◌, Bool, true, false, List, length, All, ℤ, pos, negsuc, neg_ℤ, ◌+ℤ◌, ◌-ℤ◌, ◌<ℤ◌, ◌≤ℤ◌, int_lt, refl, arith}
+use Rattle.std.proofs.Common.{◌≡◌, ◌⊎◌, inl, inr, ℕ, ◌+◌, ◌*◌, ◌^◌, ◌≤◌, Bool, true, false, List, All, ℤ, pos, negsuc, ◌+ℤ◌, ◌-ℤ◌, ◌<ℤ◌, ◌≤ℤ◌, int_lt, refl, arith}
 use Rattle.std.proofs.lemmas.Int.{ints}
 use Rattle.std.proofs.lemmas.List.Elements.{All-from_get_or}
 use Rattle.sv_bounds.specs.declared.systems.Diff.{Diff}
 use Rattle.sv_bounds.specs.declared.rounds.Cell.{Cell}
 use Rattle.sv_bounds.specs.Differences.{no_row, row_at, Within, IsRow, Holds, Meets, IsSolvable, IsUnbounded}
-use Rattle.sv_bounds.specs.Rounds.{value, asked, Near, IsStable}
+use Rattle.sv_bounds.specs.Rounds.{value, Near, IsStable}
 use Rattle.sv_bounds.proofs.ChainLaws.{row_in}
 
 -- a variable whose value is near zero is lowered by k, another one by nothing
@@ -62,8 +62,8 @@ unfolding lowered
 lowered_meets rows vars r k cells v all stable few near m = record {
   zero_first = omega (arith, ints);
   each = All-from_get_or (Holds (lowered cells k v)) rows no_row (λ i l.
-    let row : IsRow vars (row_at rows i) = row_in vars rows i all l in
-    row_kept (value cells (row_at rows i).x) (value cells (row_at rows i).y) (row_at rows i).most (v (row_at rows i).x) (v (row_at rows i).y)
+      let row : IsRow vars (row_at rows i) = row_in vars rows i all l in
+      row_kept (value cells (row_at rows i).x) (value cells (row_at rows i).y) (row_at rows i).most (v (row_at rows i).x) (v (row_at rows i).y)
       (dropped cells k (row_at rows i).x) (dropped cells k (row_at rows i).y) (v 0 -ℤ dropped cells k 0) k r
       few (near (row_at rows i).y) row.most (stable i l) (m.each i no_row l) (split_at cells k (row_at rows i).x) (split_at cells k (row_at rows i).y));
 }
@@ -73,9 +73,10 @@ pub unbounded : (rows : List Diff) (vars r : ℕ) (cells : List Cell) (x y : ℕ
 unfolding lowered
 unbounded rows vars r cells x y all stable few near s low high t =
     let enough = over (t -ℤ (s.0 x -ℤ s.0 y)) in
-    let k : ℕ = enough.0 in
-    (lowered cells k s.0,
+    let k : ℕ = enough.0 in (
+      lowered cells k s.0,
       lowered_meets rows vars r k cells s.0 all stable few near s.1,
       more_than t (s.0 x) (s.0 y) (dropped cells k x) (dropped cells k y) (s.0 0 -ℤ dropped cells k 0) k enough.1
-        (far_drop (value cells x) (dropped cells k x) k high (split_at cells k x))
-        (near_drop (value cells y) (dropped cells k y) k low (split_at cells k y)))
+          (far_drop (value cells x) (dropped cells k x) k high (split_at cells k x))
+          (near_drop (value cells y) (dropped cells k y) k low (split_at cells k y)),
+    )

@@ -1,10 +1,10 @@
 -- The rows that lead from a variable of the last round down to one of the first.
-use Rattle.std.proofs.Common.{◌≡◌, ℕ, zero, suc, ◌+◌, ◌-◌, ◌*◌, ◌^◌, ◌<◌, ◌≤◌, List, [], ◌∷◌, ◌++◌, length, All, ℤ, pos, ◌+ℤ◌, ◌<ℤ◌, ◌≤ℤ◌, refl, sym, ap, subst, ◌∙◌, arith}
+use Rattle.std.proofs.Common.{◌≡◌, ℕ, zero, suc, ◌+◌, ◌<◌, List, [], ◌∷◌, ◌++◌, length, All, ◌+ℤ◌, ◌≤ℤ◌, refl, sym, ap, subst, ◌∙◌, arith}
 use Rattle.std.proofs.lemmas.Int.{ints, by_lt_z}
 use Rattle.sv_bounds.specs.declared.systems.Diff.{Diff}
 use Rattle.sv_bounds.specs.declared.rounds.Cell.{Cell}
-use Rattle.sv_bounds.specs.Differences.{row_at, Within, IsRow, IsChain, sum_of}
-use Rattle.sv_bounds.specs.Rounds.{cell_of, value, asked, IsLowered, Fell, round_at, AreRounds}
+use Rattle.sv_bounds.specs.Differences.{row_at, IsRow, IsChain, sum_of}
+use Rattle.sv_bounds.specs.Rounds.{cell_of, value, asked, IsLowered, round_at, AreRounds}
 use Rattle.sv_bounds.specs.Walks.{IsDescent, Descends}
 use Rattle.sv_bounds.proofs.ChainLaws.{row_in, chain_push, sum_push}
 use Rattle.sv_bounds.proofs.FallLaws.{one_step, lowered_at}
@@ -59,11 +59,11 @@ ends_by rows vars rounds top x all are l (suc r) chain z d =
     let one : suc r ≡ r + 1 = omega arith in
     let here : IsDescent rows vars rounds top x (r + 1) chain z = subst (λ k. IsDescent rows vars rounds top x k chain z) one d in
     by_lt_z (value (round_at rounds (r + 1)) z) (value (round_at rounds r) z)
-      (λ fell.
-        let low : IsLowered rows (round_at rounds r) z (cell_of (round_at rounds (r + 1)) z) = lowered_at rows vars rounds are r z (omega (arith, l, here.below)) here.inside fell in
-        ends_by rows vars rounds top x all are l r (chain ++ (cell_of (round_at rounds (r + 1)) z).by ∷ []) (row_at rows (cell_of (round_at rounds (r + 1)) z).by).y
-          (descent_row rows vars rounds top x r chain z all here low (cell_of (round_at rounds (r + 1)) z).by (chain ++ (cell_of (round_at rounds (r + 1)) z).by ∷ []) refl refl))
-      (λ stays. ends_by rows vars rounds top x all are l r chain z (descent_stay rows vars rounds top x r chain z are l here stays))
+    (λ fell.
+    let low : IsLowered rows (round_at rounds r) z (cell_of (round_at rounds (r + 1)) z) = lowered_at rows vars rounds are r z (omega (arith, l, here.below)) here.inside fell in
+    ends_by rows vars rounds top x all are l r (chain ++ (cell_of (round_at rounds (r + 1)) z).by ∷ []) (row_at rows (cell_of (round_at rounds (r + 1)) z).by).y
+    (descent_row rows vars rounds top x r chain z all here low (cell_of (round_at rounds (r + 1)) z).by (chain ++ (cell_of (round_at rounds (r + 1)) z).by ∷ []) refl refl))
+    (λ stays. ends_by rows vars rounds top x all are l r chain z (descent_stay rows vars rounds top x r chain z are l here stays))
 
 -- there are rows that lead down from each variable
 pub ends : (rows : List Diff) (vars : ℕ) (rounds : List (List Cell)) (top x : ℕ) → All (IsRow vars) rows → AreRounds rows vars rounds → top < length rounds → x < vars

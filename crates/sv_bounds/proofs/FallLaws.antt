@@ -1,12 +1,12 @@
 -- Round after round: values only fall, what falls was lowered by a row, and no value goes far from its start.
-use Rattle.std.proofs.Common.{◌≡◌, ◌⊎◌, inl, inr, ℕ, zero, suc, ◌+◌, ◌-◌, ◌*◌, ◌^◌, ◌<◌, ◌≤◌, List, length, All, ℤ, pos, neg_ℤ, ◌+ℤ◌, ◌<ℤ◌, ◌≤ℤ◌, refl, sym, ap, subst, ◌∙◌, arith}
+use Rattle.std.proofs.Common.{◌≡◌, ◌⊎◌, inl, inr, ℕ, zero, suc, ◌+◌, ◌-◌, ◌^◌, ◌<◌, ◌≤◌, List, length, All, ℤ, pos, ◌+ℤ◌, ◌≤ℤ◌, refl, sym, ap, subst, arith}
 use Rattle.std.proofs.lemmas.Int.{ints}
 use Rattle.std.proofs.lemmas.Bool.{cases_lt}
 use Rattle.std.proofs.lemmas.List.{get_or_past}
 use Rattle.sv_bounds.specs.declared.systems.Diff.{Diff}
 use Rattle.sv_bounds.specs.declared.rounds.Cell.{Cell}
 use Rattle.sv_bounds.specs.Differences.{row_at, Within, IsRow}
-use Rattle.sv_bounds.specs.Rounds.{no_cell, cell_of, value, asked, IsLowered, IsNext, Fell, round_at, Near, IsStart, AreRounds}
+use Rattle.sv_bounds.specs.Rounds.{no_cell, cell_of, value, IsLowered, IsNext, Fell, round_at, Near, AreRounds}
 use Rattle.sv_bounds.proofs.ChainLaws.{row_in}
 use Rattle.sv_bounds.proofs.RoundLaws.{low}
 
@@ -59,7 +59,7 @@ near_next rows vars old new r long all near next x l = pick (next.cells x (omega
     pick (inl e) = let s : value new x ≡ value old x = ap (λ (k : Cell). k.value) e in subst (Near (r + 1)) (sym s) (near_more r (value old x) (near x))
     pick (inr h) =
         near_by r (value new x) (value old (row_at rows (cell_of new x).by).y) (row_at rows (cell_of new x).by).most
-          (row_in vars rows (cell_of new x).by all h.stands).most h.is (near (row_at rows (cell_of new x).by).y)
+        (row_in vars rows (cell_of new x).by all h.stands).most h.is (near (row_at rows (cell_of new x).by).y)
 
 near_zero : (r : ℕ) (z : ℤ) → z ≡ pos 0 → Near r z
 near_zero r z e = inl (record { low = omega (arith, ints, e); high = omega (arith, ints, e) })
@@ -82,8 +82,8 @@ near_at rows vars rounds all are (suc r) l =
     let long : length (round_at rounds r) ≡ vars = are.long r (omega (arith, l)) in
     let next : IsNext rows (length rows) (round_at rounds r) (round_at rounds (r + 1)) = are.next r more in
     let near : (x : ℕ) → Near (r + 1) (value (round_at rounds (r + 1)) x) =
-      near_all vars (r + 1) (round_at rounds (r + 1)) (are.long (r + 1) more)
-        (near_next rows vars (round_at rounds r) (round_at rounds (r + 1)) r long all (near_at rows vars rounds all are r (omega (arith, l))) next) in
+    near_all vars (r + 1) (round_at rounds (r + 1)) (are.long (r + 1) more)
+    (near_next rows vars (round_at rounds r) (round_at rounds (r + 1)) r long all (near_at rows vars rounds all are r (omega (arith, l))) next) in
     let one : r + 1 ≡ suc r = omega arith in
     subst (λ k. (x : ℕ) → Near k (value (round_at rounds k) x)) one near
 

@@ -1,5 +1,5 @@
 -- The greatest difference, from rounds that start at zero at one variable and far at the others.
-use Rattle.std.proofs.Common.{◌≡◌, ◌⊎◌, inl, inr, ℕ, ◌+◌, ◌-◌, ◌*◌, ◌^◌, ◌<◌, ◌≤◌, List, length, All, ℤ, pos, neg_ℤ, ◌+ℤ◌, ◌-ℤ◌, ◌<ℤ◌, ◌≤ℤ◌, refl, sym, ap, subst, ◌∙◌, arith}
+use Rattle.std.proofs.Common.{◌≡◌, ◌⊎◌, inl, inr, ℕ, ◌-◌, ◌^◌, ◌<◌, ◌≤◌, List, length, All, ℤ, pos, ◌-ℤ◌, ◌<ℤ◌, ◌≤ℤ◌, refl, sym, ap, subst, ◌∙◌, arith}
 use Rattle.std.specs.Global.{Vec}
 use Rattle.std.proofs.lemmas.Int.{ints}
 use Rattle.std.proofs.lemmas.Bool.{cases_eq}
@@ -11,7 +11,7 @@ use Rattle.sv_bounds.specs.declared.rounds.Cell.{Cell}
 use Rattle.sv_bounds.specs.declared.settling.Settled.{Settled}
 use Rattle.sv_bounds.specs.declared.settling.Settled.TheVariants.{Stable}
 use Rattle.sv_bounds.specs.Differences.{Within, IsRow, IsSolvable, IsChain, sum_of, IsUnbounded}
-use Rattle.sv_bounds.specs.Answers.{IsSystem, assigned, IsSolution, IsMost, IsWidest, IsExact}
+use Rattle.sv_bounds.specs.Answers.{IsSystem, assigned, IsMost, IsWidest, IsExact}
 use Rattle.sv_bounds.specs.Rounds.{value, lists, round_at, Near, AreRounds, IsStable}
 use Rattle.sv_bounds.specs.Settling.{last_of, IsBegun, IsSettled, IsStableFrom, IsShifted}
 use Rattle.sv_bounds.specs.Walks.{Descends}
@@ -57,8 +57,8 @@ pub descends_same : (rows held : List Diff) (vars : ℕ) (rounds seen : List (Ve
 descends_same rows held vars rounds seen x chain d same from =
     let top : length seen - 1 ≡ length (lists rounds) - 1 = omega (arith, lists_length rounds, ap length from) in
     subst (λ r. Descends r vars (lists rounds) (length (lists rounds) - 1) x chain) same
-      (subst (λ n. Descends held vars (lists rounds) n x chain) top
-        (subst (λ (l : List (Vec Cell)). Descends held vars (lists l) (length seen - 1) x chain) from d))
+    (subst (λ n. Descends held vars (lists rounds) n x chain) top
+    (subst (λ (l : List (Vec Cell)). Descends held vars (lists l) (length seen - 1) x chain) from d))
 
 pub reach_long : (s : System) (y : ℕ) (rounds : List (List Cell)) (cells : List Cell) → IsReach s y rounds cells → length cells ≡ s.vars
 reach_long s y rounds cells r = ap length r.last ∙ r.are.long (length rounds - 1) (omega (arith, r.some))

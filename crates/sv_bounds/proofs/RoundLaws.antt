@@ -1,5 +1,5 @@
 -- One round, row by row.
-use Rattle.std.proofs.Common.{◌≡◌, ◌⊎◌, inl, inr, ℕ, ◌+◌, ◌<◌, List, length, set, get_or, ℤ, ◌<ℤ◌, ◌≤ℤ◌, refl, sym, ap, subst, ◌∙◌, below_more, arith}
+use Rattle.std.proofs.Common.{◌≡◌, ◌⊎◌, inl, inr, ℕ, ◌+◌, ◌<◌, List, length, set, ◌<ℤ◌, ◌≤ℤ◌, sym, ap, subst, ◌∙◌, below_more, arith}
 use Rattle.std.proofs.lemmas.Int.{ints}
 use Rattle.std.proofs.lemmas.Bool.{cases_eq}
 use Rattle.std.proofs.lemmas.List.{get_or-set_same, get_or-set_other, length-set}
@@ -60,6 +60,7 @@ cells_after rows i old new c next h in' z l = pick (cases_eq z (row_at rows i).x
   where
     after : List Cell
     after = set new (row_at rows i).x c
+
     pick : (z ≡ (row_at rows i).x) ⊎ (z ≡ (row_at rows i).x → ⊥) → (cell_of (set new (row_at rows i).x c) z ≡ cell_of old z) ⊎ IsLowered rows old z (cell_of (set new (row_at rows i).x c) z)
     pick (inl e) =
         let s : cell_of (set new (row_at rows i).x c) z ≡ c = ap (cell_of (set new (row_at rows i).x c)) e ∙ get_or-set_same new (row_at rows i).x c no_cell in' in
@@ -78,9 +79,9 @@ next_lower rows i old new c next l by is in' less =
       long = length-set new (row_at rows i).x c ∙ next.long;
       cells = cells_after rows i old new c next (lowered_by rows i old new c next l by is in' less) inside;
       below = below_more (λ j. value (set new (row_at rows i).x c) (row_at rows j).x ≤ℤ asked rows j old) i
-        (λ j lt.
+          (λ j lt.
           let a : value (set new (row_at rows i).x c) (row_at rows j).x ≤ℤ value new (row_at rows j).x = value_after new (row_at rows i).x c inside less (row_at rows j).x in
           let b : value new (row_at rows j).x ≤ℤ asked rows j old = next.below j lt in
           omega (arith, ints, a, b))
-        (let s : value (set new (row_at rows i).x c) (row_at rows i).x ≡ c.value = value_same new (row_at rows i).x c inside in omega (arith, ints, s, is));
+          (let s : value (set new (row_at rows i).x c) (row_at rows i).x ≡ c.value = value_same new (row_at rows i).x c inside in omega (arith, ints, s, is));
     }

@@ -1,5 +1,5 @@
 -- Rounds that go on, and what they are when none falls.
-use Rattle.std.proofs.Common.{◌≡◌, ◌⊎◌, inl, inr, ℕ, zero, suc, ◌+◌, ◌-◌, ◌^◌, ◌<◌, ◌≤◌, List, [], ◌∷◌, ◌++◌, length, map, All, ℤ, ◌+ℤ◌, ◌<ℤ◌, ◌≤ℤ◌, refl, sym, ap, subst, ◌∙◌, arith}
+use Rattle.std.proofs.Common.{◌≡◌, ◌⊎◌, inl, inr, ℕ, zero, suc, ◌+◌, ◌-◌, ◌^◌, ◌<◌, ◌≤◌, List, [], ◌∷◌, ◌++◌, length, All, ◌≤ℤ◌, refl, sym, ap, subst, ◌∙◌, arith}
 use Rattle.std.specs.Global.{Vec}
 use Rattle.std.proofs.lemmas.Int.{ints}
 use Rattle.std.proofs.lemmas.Bool.{cases_lt}
@@ -7,7 +7,7 @@ use Rattle.std.proofs.lemmas.List.{get_or_append_left, get_or_push, length_push,
 use Rattle.sv_bounds.specs.declared.systems.Diff.{Diff}
 use Rattle.sv_bounds.specs.declared.rounds.Cell.{Cell}
 use Rattle.sv_bounds.specs.Differences.{row_at, Within, IsRow}
-use Rattle.sv_bounds.specs.Rounds.{value, asked, IsNext, Fell, Stays, lists, round_at, IsStart, AreRounds, IsStable}
+use Rattle.sv_bounds.specs.Rounds.{value, asked, IsNext, Fell, Stays, lists, round_at, IsStart, AreRounds}
 use Rattle.sv_bounds.specs.Settling.{last_of, IsStableFrom, IsSettling}
 use Rattle.sv_bounds.proofs.ChainLaws.{row_in}
 use Rattle.sv_bounds.proofs.FallLaws.{near_at, near_within}
@@ -45,6 +45,7 @@ rounds_push rows vars rounds new are some next = record {
     long_at : (r : ℕ) → (r < length rounds) ⊎ (length rounds ≤ r) → r ≤ length rounds → length (round_at (rounds ++ new ∷ []) r) ≡ vars
     long_at r (inl l) le = ap length (round_old rounds new r l) ∙ are.long r l
     long_at r (inr l) le = ap length (round_new rounds new r (omega (arith, l, le))) ∙ next.long ∙ are.long (length rounds - 1) (omega (arith, some))
+
     next_at : (r : ℕ) → (r + 1 < length rounds) ⊎ (length rounds ≤ r + 1) → r + 1 ≤ length rounds
         → IsNext rows (length rows) (round_at (rounds ++ new ∷ []) r) (round_at (rounds ++ new ∷ []) (r + 1))
     next_at r (inl l) le = next_same rows (length rows) _ _ _ _ (round_old rounds new r (omega (arith, l))) (round_old rounds new (r + 1) l) (are.next r l)
@@ -73,11 +74,11 @@ settling_more rows start rounds new done x z s next in' fell =
       count = length_push rounds new ∙ ap (λ n. n + 1) s.count;
       inside = omega (arith, in', long);
       fell = λ k e.
-        let last : k ≡ length rounds - 1 = omega (arith, e, s.count) in
-        let old : value (round_at (rounds ++ new ∷ []) k) z ≡ value (last_of rounds) z =
+          let last : k ≡ length rounds - 1 = omega (arith, e, s.count) in
+          let old : value (round_at (rounds ++ new ∷ []) k) z ≡ value (last_of rounds) z =
           ap (λ cells. value cells z) (round_old rounds new k (omega (arith, last, some)) ∙ ap (round_at rounds) last) in
-        let here : value (round_at (rounds ++ new ∷ []) (done + 1)) z ≡ value new z = ap (λ cells. value cells z) (round_new rounds new (done + 1) (sym s.count)) in
-        omega (arith, ints, old, here, fell);
+          let here : value (round_at (rounds ++ new ∷ []) (done + 1)) z ≡ value new z = ap (λ cells. value cells z) (round_new rounds new (done + 1) (sym s.count)) in
+          omega (arith, ints, old, here, fell);
     }
 
 -- a round in which none falls: the one before it meets each row
@@ -91,10 +92,10 @@ settled rows start rounds new done x all s l next stays =
       some = omega (arith, s.count);
       many = omega (arith, s.count, l);
       stable = λ i lt.
-        let row : IsRow (length start) (row_at rows i) = row_in (length start) rows i all lt in
-        let a : value (last_of rounds) (row_at rows i).x ≤ℤ value new (row_at rows i).x = stays (row_at rows i).x (omega (arith, row.x, long)) in
-        let b : value new (row_at rows i).x ≤ℤ asked rows i (last_of rounds) = next.below i lt in
-        omega (arith, ints, a, b);
+          let row : IsRow (length start) (row_at rows i) = row_in (length start) rows i all lt in
+          let a : value (last_of rounds) (row_at rows i).x ≤ℤ value new (row_at rows i).x = stays (row_at rows i).x (omega (arith, row.x, long)) in
+          let b : value new (row_at rows i).x ≤ℤ asked rows i (last_of rounds) = next.below i lt in
+          omega (arith, ints, a, b);
     }
 
 pub settling_near : (rows : List Diff) (start : List Cell) (rounds : List (List Cell)) (done x : ℕ) → All (IsRow (length start)) rows → IsSettling rows start rounds done x
@@ -122,7 +123,7 @@ grown rows start old seen rounds longer new done x z s e next same in' fell more
     let next' : IsNext rows (length rows) (last_of (lists rounds)) new.items = subst (λ cells. IsNext rows (length rows) cells new.items) e next in
     let fell' : Fell (last_of (lists rounds)) new.items z = subst (λ cells. Fell cells new.items z) e (subst (λ cells. Fell old cells z) same fell) in
     let step : IsSettling rows start (lists rounds ++ new.items ∷ []) (done + 1) z =
-      settling_more rows start (lists rounds) new.items done x z s next' (omega (arith, in', ap length e)) fell' in
+    settling_more rows start (lists rounds) new.items done x z s next' (omega (arith, in', ap length e)) fell' in
     subst (λ l. IsSettling rows start l (done + 1) z) (sym (ap lists more ∙ lists_push rounds new)) step
 
 pub stood : (rows : List Diff) (start old seen : List Cell) (rounds : List (Vec Cell)) (new : List Cell) (done x : ℕ) → All (IsRow (length start)) rows → IsSettling rows start (lists rounds) done x

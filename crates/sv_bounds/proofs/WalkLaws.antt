@@ -1,8 +1,8 @@
 -- The walk that looks for a cycle: its marks, and that it ends.
-use Rattle.std.proofs.Common.{◌≡◌, ◌≢◌, ◌⊎◌, inl, inr, ℕ, zero, suc, ◌+◌, ◌-◌, ◌<◌, ◌≤◌, Bool, true, false, cond, List, [], ◌∷◌, ◌++◌, length, drop, set, get_or, replicate, count_by, All, Option, Some, None, ℤ, pos, ◌+ℤ◌, ◌<ℤ◌, ◌≤ℤ◌, refl, sym, ap, subst, ◌∙◌, arith}
+use Rattle.std.proofs.Common.{◌≡◌, ◌⊎◌, inl, inr, ℕ, ◌+◌, ◌-◌, ◌<◌, ◌≤◌, cond, List, [], ◌∷◌, ◌++◌, length, drop, set, get_or, replicate, count_by, All, Option, Some, None, pos, ◌+ℤ◌, ◌<ℤ◌, ◌≤ℤ◌, refl, sym, ap, subst, ◌∙◌, arith}
 use Rattle.std.proofs.lemmas.Int.{ints}
 use Rattle.std.proofs.lemmas.Bool.{cases_eq, cases_lt}
-use Rattle.std.proofs.lemmas.List.{get_or-set_same, get_or-set_other, get_or-replicate, get_or_past, length-set, length_push, length-replicate, drop-append-le, drop_at, drop_all}
+use Rattle.std.proofs.lemmas.List.{get_or-set_same, get_or-set_other, get_or-replicate, get_or_past, length-set, length_push, length-replicate, drop-append-le, drop_at}
 use Rattle.std.proofs.lemmas.List.Sums.{sum_by-set, count_by-le-length}
 use Rattle.sv_bounds.specs.declared.systems.Diff.{Diff}
 use Rattle.sv_bounds.specs.declared.rounds.Cell.{Cell}
@@ -26,14 +26,13 @@ walk_closes rows vars rounds r seen chain x p walk e =
       below = below;
     }
 
-
 abbrev weight : Option ℕ → ℕ
 weight o = cond (is_marked o) 1 0
 
 pub count_more : (seen : List (Option ℕ)) (x p : ℕ) → x < length seen → get_or seen x None ≡ None → count_by is_marked (set seen x (Some p)) ≡ count_by is_marked seen + 1
 count_more seen x p l e =
     let step : count_by is_marked (set seen x (Some p)) + weight (get_or seen x None) ≡ count_by is_marked seen + 1 =
-      sum_by-set weight seen x (Some p) None l in
+    sum_by-set weight seen x (Some p) None l in
     let free : weight (get_or seen x None) ≡ 0 = ap weight e in
     omega (arith, step, free)
 
@@ -58,9 +57,9 @@ mark_on rows rounds r chain x z p i mark l from is =
       behind = omega (arith, mark.behind, length_push chain i);
       leads = subst (λ c. IsChain rows z c (row_at rows i).y) (sym cut) (chain_push rows (drop p chain) z x i mark.leads l from);
       less = λ k le.
-        let sum : sum_of rows (drop p (chain ++ i ∷ [])) ≡ (sum_of rows (drop p chain) +ℤ (row_at rows i).most) = ap (sum_of rows) cut ∙ sum_push rows (drop p chain) i in
-        let less : (sum_of rows (drop p chain) +ℤ value (round_at rounds (r + 1)) x) <ℤ value (round_at rounds k) z = mark.less k (omega (arith, le)) in
-        omega (arith, ints, sum, less, is);
+          let sum : sum_of rows (drop p (chain ++ i ∷ [])) ≡ (sum_of rows (drop p chain) +ℤ (row_at rows i).most) = ap (sum_of rows) cut ∙ sum_push rows (drop p chain) i in
+          let less : (sum_of rows (drop p chain) +ℤ value (round_at rounds (r + 1)) x) <ℤ value (round_at rounds k) z = mark.less k (omega (arith, le)) in
+          omega (arith, ints, sum, less, is);
     }
 
 -- the mark that is set where the walk stands
@@ -73,9 +72,9 @@ mark_here rows vars rounds are r chain x i l in' fell stands from is =
       behind = omega (arith, length_push chain i);
       leads = subst (λ c. IsChain rows x c (row_at rows i).y) (sym cut) (stands, from, refl);
       less = λ k le.
-        let sum : sum_of rows (drop (length chain) (chain ++ i ∷ [])) ≡ ((row_at rows i).most +ℤ pos 0) = ap (sum_of rows) cut in
-        let down : value (round_at rounds r) x ≤ℤ value (round_at rounds k) x = falls rows vars rounds are k r x le (omega (arith, l)) in' in
-        omega (arith, ints, sum, down, fell, is);
+          let sum : sum_of rows (drop (length chain) (chain ++ i ∷ [])) ≡ ((row_at rows i).most +ℤ pos 0) = ap (sum_of rows) cut in
+          let down : value (round_at rounds r) x ≤ℤ value (round_at rounds k) x = falls rows vars rounds are k r x le (omega (arith, l)) in' in
+          omega (arith, ints, sum, down, fell, is);
     }
 
 -- the variable that the row comes from fell in the round before
@@ -111,7 +110,7 @@ walk_step rows vars rounds r seen chain x i all are count walk free stands from 
         → IsMark rows rounds r (chain ++ i ∷ []) (row_at rows i).y z p
     marks_at z p e (inl same) in' fell few =
         let here : get_or (set seen x (Some (length chain))) z None ≡ Some (length chain) =
-          ap (λ k. get_or (set seen x (Some (length chain))) k None) same ∙ get_or-set_same seen x (Some (length chain)) None in' in
+        ap (λ k. get_or (set seen x (Some (length chain))) k None) same ∙ get_or-set_same seen x (Some (length chain)) None in' in
         let q : length chain ≡ p = some_same (length chain) p (sym here ∙ e) in
         let mark : IsMark rows rounds r (chain ++ i ∷ []) (row_at rows i).y x (length chain) = mark_here rows vars rounds are r chain x i few walk.inside fell stands from is in
         subst (λ k. IsMark rows rounds r (chain ++ i ∷ []) (row_at rows i).y k p) (sym same) (subst (λ k. IsMark rows rounds r (chain ++ i ∷ []) (row_at rows i).y x k) q mark)
@@ -135,7 +134,7 @@ walk_lowered rows vars rounds r seen chain x are count walk free =
     let one : r - 1 + 1 ≡ r = omega (arith, some) in
     let fell : Fell (round_at rounds (r - 1)) (round_at rounds (r - 1 + 1)) x = subst (λ k. Fell (round_at rounds (r - 1)) (round_at rounds k) x) (sym one) (walk.fell (r - 1) one) in
     subst (λ k. IsLowered rows (round_at rounds (r - 1)) x (cell_of (round_at rounds k) x)) one
-      (lowered_at rows vars rounds are (r - 1) x (omega (arith, some, walk.down, count)) walk.inside fell)
+    (lowered_at rows vars rounds are (r - 1) x (omega (arith, some, walk.down, count)) walk.inside fell)
 
 pub walk_row : (rows : List Diff) (vars : ℕ) (rounds : List (List Cell)) (r : ℕ) (seen : List (Option ℕ)) (chain : List ℕ) (x by : ℕ)
     → AreRounds rows vars rounds → length rounds ≡ vars + 1 → IsWalk rows vars rounds r seen chain x → get_or seen x None ≡ None
@@ -155,8 +154,8 @@ walk_on rows vars rounds r seen chain x all are count walk free by n longer e lo
     let low : IsLowered rows (round_at rounds (r - 1)) x (cell_of (round_at rounds r) x) = walk_lowered rows vars rounds r seen chain x are count walk free in
     let here : IsWalk rows vars rounds (r - 1 + 1) seen chain x = subst (λ k. IsWalk rows vars rounds k seen chain x) (sym one) walk in
     let is : value (round_at rounds (r - 1 + 1)) x ≡ asked rows by (round_at rounds (r - 1)) =
-      ap (λ k. value (round_at rounds k) x) one ∙ low.is ∙ ap (λ j. asked rows j (round_at rounds (r - 1))) (sym e) in
+    ap (λ k. value (round_at rounds k) x) one ∙ low.is ∙ ap (λ j. asked rows j (round_at rounds (r - 1))) (sym e) in
     let step : IsWalk rows vars rounds (r - 1) (set seen x (Some (length chain))) (chain ++ by ∷ []) (row_at rows by).y =
-      walk_step rows vars rounds (r - 1) seen chain x by all are count here free (omega (arith, e, low.stands)) (ap (λ j. (row_at rows j).x) e ∙ low.from) is in
+    walk_step rows vars rounds (r - 1) seen chain x by all are count here free (omega (arith, e, low.stands)) (ap (λ j. (row_at rows j).x) e ∙ low.from) is in
     subst (λ m. IsWalk rows vars rounds (r - 1) (set seen x (Some m)) longer (row_at rows by).y) (sym long)
-      (subst (λ l. IsWalk rows vars rounds (r - 1) (set seen x (Some (length chain))) l (row_at rows by).y) (sym more) step)
+    (subst (λ l. IsWalk rows vars rounds (r - 1) (set seen x (Some (length chain))) l (row_at rows by).y) (sym more) step)

@@ -1,12 +1,12 @@
 -- What the calls take and answer.
-use Rattle.std.specs.Prelude.{◌≡◌, ℕ, ◌+◌, ◌≤◌, List, [], ◌∷◌, ◌++◌, length, get_or, All, ℤ, pos, neg_ℤ, ◌-ℤ◌, ◌↔◌}
+use Rattle.std.specs.Prelude.{◌≡◌, ℕ, ◌≤◌, List, [], ◌∷◌, ◌++◌, length, get_or, All, ℤ, pos, neg_ℤ, ◌-ℤ◌, ◌↔◌}
 use Rattle.sv_bounds.specs.declared.systems.Diff.{Diff}
 use Rattle.sv_bounds.specs.declared.systems.System.{System}
 use Rattle.sv_bounds.specs.declared.systems.Answer.{Answer}
 use Rattle.sv_bounds.specs.declared.systems.Answer.TheVariants.{Values, Cycle}
 use Rattle.sv_bounds.specs.declared.systems.Widest.{Widest}
 use Rattle.sv_bounds.specs.declared.systems.Widest.TheVariants.{Most, Unbounded}
-use Rattle.sv_bounds.specs.Differences.{Within, IsRow, Meets, IsSolvable, IsChain, sum_of, IsCycle, IsBound, IsUnbounded}
+use Rattle.sv_bounds.specs.Differences.{IsRow, Meets, IsSolvable, IsChain, sum_of, IsCycle, IsBound, IsUnbounded}
 
 -- the condition of the calls
 pub record IsSystem (s : System) : Type 0 where

@@ -1,5 +1,5 @@
 -- Systems of differences: assignments that meet the rows, rows that lead from one variable to another, and cycles of rows.
-use Rattle.std.specs.Prelude.{◌≡◌, ◌≢◌, ℕ, ◌+◌, ◌^◌, ◌<◌, ◌≤◌, List, [], ◌∷◌, length, get_or, All, ℤ, pos, neg_ℤ, ◌+ℤ◌, ◌-ℤ◌, ◌<ℤ◌, ◌≤ℤ◌}
+use Rattle.std.specs.Prelude.{◌≡◌, ◌≢◌, ℕ, ◌^◌, ◌<◌, List, [], ◌∷◌, length, get_or, All, ℤ, pos, neg_ℤ, ◌+ℤ◌, ◌-ℤ◌, ◌<ℤ◌, ◌≤ℤ◌}
 use Rattle.sv_bounds.specs.declared.systems.Diff.{Diff}
 
 -- what stands past the last row
@@ -57,3 +57,11 @@ IsBound rows x y most = (v : ℕ → ℤ) → Meets rows v → (v x -ℤ v y) �
 -- for each number there is an assignment that meets the rows, in which x - y is greater
 abbrev pub IsUnbounded : List Diff → ℕ → ℕ → Type 0
 IsUnbounded rows x y = (t : ℤ) → (v : ℕ → ℤ) × Meets rows v × (t <ℤ (v x -ℤ v y))
+
+-- rows with a cycle are met by no assignment
+abbrev pub AnswersExclude : Type 0
+AnswersExclude = (rows : List Diff) (chain : List ℕ) → IsCycle rows chain → ¬ IsSolvable rows
+
+-- what has a bound is not unbounded
+abbrev pub WidthsExclude : Type 0
+WidthsExclude = (rows : List Diff) (x y : ℕ) (most : ℤ) → IsBound rows x y most → ¬ IsUnbounded rows x y

@@ -1,5 +1,5 @@
 -- Rounds of lowering: each round has a value for each variable, made from the values of the round before it.
-use Rattle.std.specs.Prelude.{◌≡◌, ◌⊎◌, ℕ, ◌+◌, ◌*◌, ◌^◌, ◌<◌, ◌≤◌, List, [], length, map, get_or, ℤ, pos, neg_ℤ, ◌+ℤ◌, ◌<ℤ◌, ◌≤ℤ◌}
+use Rattle.std.specs.Prelude.{◌≡◌, ◌⊎◌, ℕ, ◌+◌, ◌*◌, ◌^◌, ◌<◌, List, [], length, map, get_or, ℤ, pos, neg_ℤ, ◌+ℤ◌, ◌<ℤ◌, ◌≤ℤ◌}
 use Rattle.std.specs.Global.{Vec}
 use Rattle.sv_bounds.specs.declared.systems.Diff.{Diff}
 use Rattle.sv_bounds.specs.declared.rounds.Cell.{Cell}

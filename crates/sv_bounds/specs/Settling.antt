@@ -6,7 +6,7 @@ use Rattle.sv_bounds.specs.declared.settling.Settled.{Settled}
 use Rattle.sv_bounds.specs.declared.settling.Settled.TheVariants.{Stable, Cyclic}
 use Rattle.sv_bounds.specs.Differences.{IsCycle}
 use Rattle.sv_bounds.specs.Answers.{assigned}
-use Rattle.sv_bounds.specs.Rounds.{value, Fell, lists, round_at, IsStart, AreRounds, IsStable}
+use Rattle.sv_bounds.specs.Rounds.{value, Fell, lists, round_at, AreRounds, IsStable}
 
 abbrev pub last_of : List (List Cell) → List Cell
 last_of rounds = round_at rounds (length rounds - 1)

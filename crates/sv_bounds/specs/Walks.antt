@@ -1,8 +1,8 @@
 -- Walks down the rounds, by the rows that lowered the variables.
-use Rattle.std.specs.Prelude.{◌≡◌, ℕ, ◌+◌, ◌-◌, ◌*◌, ◌^◌, ◌<◌, ◌≤◌, Bool, true, false, List, length, drop, get_or, count_by, Option, Some, None, ℤ, ◌+ℤ◌, ◌<ℤ◌}
+use Rattle.std.specs.Prelude.{◌≡◌, ℕ, ◌+◌, ◌-◌, ◌*◌, ◌^◌, ◌<◌, ◌≤◌, Bool, true, false, List, length, drop, get_or, count_by, Option, Some, None, ◌+ℤ◌, ◌<ℤ◌}
 use Rattle.sv_bounds.specs.declared.systems.Diff.{Diff}
 use Rattle.sv_bounds.specs.declared.rounds.Cell.{Cell}
-use Rattle.sv_bounds.specs.Differences.{row_at, Within, IsChain, sum_of}
+use Rattle.sv_bounds.specs.Differences.{Within, IsChain, sum_of}
 use Rattle.sv_bounds.specs.Rounds.{value, Fell, round_at}
 
 abbrev pub is_marked : Option ℕ → Bool

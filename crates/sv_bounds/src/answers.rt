@@ -5,7 +5,7 @@ ghost use Rattle.sv_bounds.specs.Rounds.{value};
 ghost use Rattle.sv_bounds.specs.Settling.{IsShifted};
 
 use crate::rounds::Cell;
-use crate::settling::{begin, last, settle, Settled};
+use crate::settling::{Settled, begin, last, settle};
 use crate::systems::{Answer, Diff, System};
 use std::alloc::Global;
 use sv_value::{List, NoMemory};

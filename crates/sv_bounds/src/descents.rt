@@ -22,10 +22,8 @@ fn descend(
     requires rounds { AreRounds rows.now vars (lists rounds.now) }
     requires r { r + 1 < length rounds.now }
     requires x { x < vars }
-    ensures {
-        (from : ℕ) → IsDescent rows.now vars (lists rounds.now) (length rounds.now - 1) from (r + 1) chain.old.items x
-            → IfOk result (λ z. IsDescent rows.now vars (lists rounds.now) (length rounds.now - 1) from r chain.new.items z)
-    }
+    ensures { (from : ℕ) → IsDescent rows.now vars (lists rounds.now) (length rounds.now - 1) from (r + 1) chain.old.items x
+        → IfOk result (λ z. IsDescent rows.now vars (lists rounds.now) (length rounds.now - 1) from r chain.new.items z) }
 {
     let cell = cell_at(rounds, r + 1, x);
     if cell.value < cell_at(rounds, r, x).value {
@@ -47,9 +45,7 @@ pub fn chain_of(
     requires rounds { AreRounds rows.now vars (lists rounds.now) }
     requires some { 1 ≤ length rounds.now }
     requires from { from < vars }
-    ensures {
-        IfOk result (λ chain. Descends rows.now vars (lists rounds.now) (length rounds.now - 1) from chain.items)
-    }
+    ensures { IfOk result (λ chain. Descends rows.now vars (lists rounds.now) (length rounds.now - 1) from chain.items) }
 {
     let mut chain = Vec::new(alloc);
     let mut x = from;

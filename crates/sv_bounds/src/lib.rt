@@ -3,6 +3,7 @@
 
 mod answers;
 mod descents;
+mod laws;
 mod rounds;
 mod settling;
 mod systems;
@@ -10,5 +11,6 @@ mod walks;
 mod widths;
 
 pub use answers::{above, solve};
+pub use laws::{answers_exclude, widths_exclude};
+pub use systems::{Answer, Diff, MOST_BOUND, MOST_ROWS, MOST_VARS, System, Widest};
 pub use widths::greatest;
-pub use systems::{Answer, Diff, System, Widest};

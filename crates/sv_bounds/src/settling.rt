@@ -3,7 +3,7 @@ ghost use Rattle.sv_bounds.specs.Differences.{IsRow};
 ghost use Rattle.sv_bounds.specs.Settling.{last_of, IsBegun, IsSettled};
 ghost use Rattle.sv_bounds.specs.Rounds.{lists, IsStart};
 
-use crate::rounds::{fallen, next_round, Cell};
+use crate::rounds::{Cell, fallen, next_round};
 use crate::systems::Diff;
 use crate::walks::cycle;
 use std::alloc::Global;

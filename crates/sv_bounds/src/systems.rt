@@ -1,7 +1,20 @@
+ghost use Rattle.std.specs.Prelude.{◌↔◌, IsTrue, All};
+ghost use Rattle.sv_bounds.specs.Differences.{IsRow};
+ghost use Rattle.sv_bounds.specs.Answers.{IsSystem};
+
 use sv_value::List;
 
+/// The most variables of a system, variable 0 included.
+pub const MOST_VARS: u8 = 65;
+
+/// The most rows of a system.
+pub const MOST_ROWS: usize = 4096;
+
+/// The greatest bound of a row; less this is the least one.
+pub const MOST_BOUND: i128 = 1 << 70;
+
 /// A row `x - y <= most` over two variables of a system.
-#[derive(Clone, Copy, Debug)]
+#[derive(Clone, Copy, Debug, PartialEq, Eq)]
 pub struct Diff {
     pub x: u8,
     pub y: u8,
@@ -13,6 +26,33 @@ pub struct Diff {
 pub struct System {
     pub vars: u8,
     pub rows: List<Diff>,
+}
+
+impl Diff {
+    /// Whether the row is over variables below `vars`, with a bound between -2^70 and 2^70.
+    pub fn is_row(&self, vars: u8) -> bool
+        ensures { IsTrue result ↔ IsRow vars self.now }
+    {
+        self.x < vars && self.y < vars && -MOST_BOUND <= self.most && self.most <= MOST_BOUND
+    }
+}
+
+impl System {
+    /// Whether the calls take the system: 1 to 65 variables, and at most 4,096 rows over them, each with its bound in range.
+    pub fn is_valid(&self) -> bool
+        ensures { IsTrue result ↔ IsSystem self.now }
+    {
+        1 <= self.vars
+            && self.vars <= MOST_VARS
+            && self.rows.len() <= MOST_ROWS
+            && are_rows(self.rows.items(), self.vars)
+    }
+}
+
+fn are_rows(rows: &[Diff], vars: u8) -> bool
+    ensures { IsTrue result ↔ All (IsRow vars) rows.now }
+{
+    rows.iter().all(|row| row.is_row(vars))
 }
 
 /// Either a value for each variable, which together meet the rows and give 0 to variable 0,

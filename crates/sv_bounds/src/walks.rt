@@ -41,7 +41,13 @@ fn behind(alloc: Global, chain: &[u32], from: usize) -> Result<Vec<u32>, NoMemor
 
 /// Walks down the rounds from a variable that fell in the last one, each time to the variable that lowered it,
 /// until one comes again: the rows since then form a cycle.
-pub fn cycle(alloc: Global, rows: &[Diff], vars: usize, rounds: &[Vec<Cell>], from: usize) -> Result<Vec<u32>, NoMemory>
+pub fn cycle(
+    alloc: Global,
+    rows: &[Diff],
+    vars: usize,
+    rounds: &[Vec<Cell>],
+    from: usize,
+) -> Result<Vec<u32>, NoMemory>
     requires rows { All (IsRow vars) rows.now }
     requires rounds { AreRounds rows.now vars (lists rounds.now) }
     requires count { length rounds.now ≡ vars + 1 }

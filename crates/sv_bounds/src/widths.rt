@@ -4,7 +4,7 @@ ghost use Rattle.sv_bounds.specs.Answers.{IsSystem, IsWidest, IsExact};
 
 use crate::answers::shifted;
 use crate::descents::chain_of;
-use crate::settling::{begin, last, settle, Settled};
+use crate::settling::{Settled, begin, last, settle};
 use crate::systems::{System, Widest};
 use std::alloc::Global;
 use sv_value::{List, NoMemory};

@@ -1,7 +1,5 @@
-use Rattle.std.proofs.Common.{rules, ◌≡◌, ℕ, ◌+◌, ◌^◌, length, length-append, ℤ, pos, ◌-ℤ◌, to_z, of_z, ap, ◌∙◌, arith}
-use Rattle.std.specs.Int.{w128}
+use Rattle.std.proofs.Common.{rules, ◌^◌, arith}
 use Rattle.std.proofs.lemmas.Int.{ints}
-use Rattle.std.proofs.lemmas.List.{length_push}
 use Rattle.sv_bounds.specs.Differences.{Within}
 use Rattle.sv_bounds.specs.Rounds.{value}
 use Rattle.sv_bounds.proofs.AnswerLaws.{shifted_more}
@@ -11,8 +9,8 @@ pub loop-cell-preserved : goal.loop-cell-preserved
 loop-cell-preserved c = record {
   long = search rules;
   each =
-    let zero : Within (2 ^ 101) (value c.args.cells.now 0) = c.requires.values 0 in
-    let here : Within (2 ^ 101) (value c.args.cells.now c.loop-cell.cell-index) = c.requires.values c.loop-cell.cell-index in
-    shifted_more c.args.cells.now c.loop-cell.values.items c.push.new.self.items c.loop-cell.cell-index _ c.loop-cell.invariant.long c.loop-cell.invariant.each c.in_ok-push.ensures.items
+      let zero : Within (2 ^ 101) (value c.args.cells.now 0) = c.requires.values 0 in
+      let here : Within (2 ^ 101) (value c.args.cells.now c.loop-cell.cell-index) = c.requires.values c.loop-cell.cell-index in
+      shifted_more c.args.cells.now c.loop-cell.values.items c.push.new.self.items c.loop-cell.cell-index _ c.loop-cell.invariant.long c.loop-cell.invariant.each c.in_ok-push.ensures.items
       (omega (arith, ints, zero.low, zero.high, here.low, here.high));
 }

@@ -1,8 +1,8 @@
-use Rattle.std.proofs.Common.{rules, ◌≡◌, ℕ, ◌+◌, ◌-◌, ◌<◌, ◌≤◌, length, drop, get_or, set, List, Option, Some, None, ap, subst, sym, ◌∙◌, arith}
+use Rattle.std.proofs.Common.{rules, ◌≡◌, ◌<◌, ◌≤◌, length, drop, get_or, Some, None, ap, subst, sym, ◌∙◌, arith}
 use Rattle.sv_bounds.specs.declared.rounds.Cell.{Cell}
 use Rattle.sv_bounds.specs.Differences.{IsCycle}
-use Rattle.sv_bounds.specs.Rounds.{cell_of, lists, round_at}
-use Rattle.sv_bounds.specs.Walks.{IsMark, IsWalk}
+use Rattle.sv_bounds.specs.Rounds.{lists}
+use Rattle.sv_bounds.specs.Walks.{IsMark}
 use Rattle.sv_bounds.proofs.SettleLaws.{lists_length}
 use Rattle.sv_bounds.proofs.WalkLaws.{walk_closes, walk_goes_on, walk_row, walk_on}
 use Rattle.sv_bounds.proofs.walks.cycle.Goals as goal
@@ -17,7 +17,7 @@ pub returns-in-Some : goal.returns-in-Some
 returns-in-Some c =
     let marked : get_or c.down.seen.items c.down.x None ≡ Some c.in-Some.passed = cc in
     let cycle : IsCycle c.args.rows.now (drop c.in-Some.passed c.down.chain.items) =
-      walk_closes c.args.rows.now c.args.vars (lists c.args.rounds.now) c.down.r c.down.seen.items c.down.chain.items c.down.x c.in-Some.passed c.down.invariant marked in
+    walk_closes c.args.rows.now c.args.vars (lists c.args.rounds.now) c.down.r c.down.seen.items c.down.chain.items c.down.x c.in-Some.passed c.down.invariant marked in
     let rest : c.in_ok-rest-in-Some.rest.items ≡ drop c.in-Some.passed c.down.chain.items = c.in_ok-rest-in-Some.ensures ∙ ap (drop c.in-Some.passed) c.deref-in-Some.ensures.value in
     subst (IsCycle c.args.rows.now) (sym rest) cycle
 
@@ -30,7 +30,7 @@ pub bounds-rows-by : goal.bounds-rows-by
 bounds-rows-by c =
     let free : get_or c.down.seen.items c.down.x None ≡ None = cc in
     walk_row c.args.rows.now c.args.vars (lists c.args.rounds.now) c.down.r c.down.seen.items c.down.chain.items c.down.x c.cell_at-by.result.by c.requires.rounds
-      (lists_length c.args.rounds.now ∙ c.requires.count) c.down.invariant free (ap (λ (k : Cell). k.by) c.cell_at-by.ensures)
+    (lists_length c.args.rounds.now ∙ c.requires.count) c.down.invariant free (ap (λ (k : Cell). k.by) c.cell_at-by.ensures)
 
 pub overflow_sub-r : goal.overflow_sub-r
 overflow_sub-r c =
@@ -47,5 +47,5 @@ pub down-preserved : goal.down-preserved
 down-preserved c =
     let free : get_or c.down.seen.items c.down.x None ≡ None = cc in
     walk_on c.args.rows.now c.args.vars (lists c.args.rounds.now) c.down.r c.down.seen.items c.down.chain.items c.down.x c.requires.rows c.requires.rounds
-      (lists_length c.args.rounds.now ∙ c.requires.count) c.down.invariant free c.cell_at-by.result.by c.len.result c.push.new.self.items
-      (ap (λ (k : Cell). k.by) c.cell_at-by.ensures) (search rules) c.in_ok-push.ensures.items
+    (lists_length c.args.rounds.now ∙ c.requires.count) c.down.invariant free c.cell_at-by.result.by c.len.result c.push.new.self.items
+    (ap (λ (k : Cell). k.by) c.cell_at-by.ensures) (search rules) c.in_ok-push.ensures.items
