@@ -7,6 +7,8 @@ mod laws;
 mod rounds;
 mod settling;
 mod systems;
+#[cfg(test)]
+mod tests;
 mod walks;
 mod widths;
 
