@@ -53,6 +53,15 @@ fn at_least(x: u8, y: u8, d: i128) -> Diff
     }
 }
 
+/// The system with one more row, the last.
+fn longer(alloc: Global, s: &System, row: Diff) -> Result<System, NoMemory>
+    ensures { IfOk result (λ longer. longer ≡ with_row s.now row) }
+{
+    let mut rows = s.rows.copied(alloc)?;
+    rows.push(row)?;
+    Ok(System { vars: s.vars, rows })
+}
+
 /// As `solve`, of the system with the row `x - y >= d` behind its own.
 pub fn above(alloc: Global, s: &System, x: u8, y: u8, d: i128) -> Result<Answer, NoMemory>
     requires system { IsSystem s.now }
@@ -63,9 +72,7 @@ pub fn above(alloc: Global, s: &System, x: u8, y: u8, d: i128) -> Result<Answer,
     ensures answer { IfOk result (λ answer. IsAnswer (with_row s.now (above_row x y d)) answer) }
     ensures decided { IfOk result (λ answer. IsDecided (with_row s.now (above_row x y d)) answer) }
 {
-    let mut rows = s.rows.copied(alloc)?;
-    rows.push(at_least(x, y, d))?;
-    let longer = System { vars: s.vars, rows };
-    let answer = solve(alloc, &longer)?;
+    let system = longer(alloc, s, at_least(x, y, d))?;
+    let answer = solve(alloc, &system)?;
     Ok(answer)
 }
