@@ -1,3 +1,4 @@
+pub mod AskLaws
 pub mod BirthLaws
 pub mod CutLaws
 pub mod HistoryLaws

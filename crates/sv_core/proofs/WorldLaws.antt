@@ -1,9 +1,9 @@
 -- A world's fields stay those of its history when an entry is added.
-use Rattle.std.proofs.Common.{◌≡◌, ◌≢◌, ◌⊎◌, inl, inr, ℕ, zero, suc, ◌+◌, ◌*◌, ◌-◌, ◌<◌, ◌≤◌, ◌==◌, nat_lt, if◌then◌else◌, Bool, true, false, List, [], ◌∷◌, ◌++◌, length, take, drop, set, get_or, Option, Some, None, slice_get, refl, sym, ap, subst, ◌∙◌, arith}
+use Rattle.std.proofs.Common.{◌≡◌, ◌≢◌, ◌⊎◌, inl, inr, ℕ, zero, suc, ◌+◌, ◌*◌, ◌-◌, ◌<◌, ◌≤◌, ◌==◌, nat_lt, if◌then◌else◌, Bool, true, false, List, [], ◌∷◌, ◌++◌, length, take, drop, set, get_or, Option, Some, None, slice_get, refl, sym, ap, subst, ◌∙◌, arith, reverse}
 use Rattle.std.specs.Option.{option_map}
 use Rattle.std.proofs.lemmas.Bool.Decides.{nat_tests}
 use Rattle.std.proofs.lemmas.Bool.{cases_eq}
-use Rattle.std.proofs.lemmas.List.{nil_from_length}
+use Rattle.std.proofs.lemmas.List.{nil_from_length, reverse-append}
 use Rattle.std.proofs.lemmas.Option.{slice_get_within, slice_get-get_or, slice_get_past}
 use Rattle.sv_value.specs.declared.packets.Packet.{Packet}
 use Rattle.sv_value.specs.declared.packets.Packet.TheVariants.{Blue, Red}
@@ -151,13 +151,13 @@ set_get {A} (x ∷ xs) (suc at) new (suc j) a e = up (set_get xs at new j a e)
     up (inl both) = inl (ap suc both.0, both.1)
     up (inr both) = inr (λ is. both.0 (omega (arith, is)), both.1)
 
-length-set-at : {A : Type 0} (xs : List A) (at : ℕ) (new : A) → length (set xs at new) ≡ length xs
+pub length-set-at : {A : Type 0} (xs : List A) (at : ℕ) (new : A) → length (set xs at new) ≡ length xs
 length-set-at [] at new = refl
 length-set-at (x ∷ xs) zero new = refl
 length-set-at (x ∷ xs) (suc at) new = ap suc (length-set-at xs at new)
 
 -- the site of a place
-place_site : (site place : ℕ) → 1 ≤ site → place ≡ site - 1 → suc place ≡ site
+pub place_site : (site place : ℕ) → 1 ≤ site → place ≡ site - 1 → suc place ≡ site
 place_site site place one is = omega (arith, one, is)
 
 -- what a packet that is applied finds: its operation, and room for it in the cut and the rows of its site
@@ -246,3 +246,26 @@ judged_is doc h site packet op cut is stands = (λ i. judged_op (λ o. is o i) p
 pub unknown_is : (doc : Document) (h : History) (site : ℕ) (packet : Packet) → length (published doc h (origin packet)) ≤ number packet
     → Unknown (length (published doc h (origin packet))) ≡ delivered doc h site packet
 unknown_is doc h site packet past = sym (ap (delivered_op doc h site packet) (slice_get_past (published doc h (origin packet)) (number packet) past))
+
+pub same_op : (a b : Op) → Some a ≡ Some b → a ≡ b
+same_op a b e = cc
+
+pub op_inside : (doc : Document) (h : History) (site : ℕ) (packet : Packet) → delivered doc h site packet ≡ Applied → number packet < length (published doc h (origin packet))
+op_inside doc h site packet e = let r : IsReady doc h site packet = ready doc h site packet e in slice_get_within (published doc h (origin packet)) (number packet) r.op r.stands
+
+pub reverse_push : (es : List Entry) (e : Entry) → reverse (es ++ e ∷ []) ≡ e ∷ reverse es
+reverse_push es e = reverse-append es (e ∷ [])
+
+-- more room does no harm
+pub keeps_room : (doc : Document) (h : History) (lists : List (List Op)) (sites : List SiteState) (answers : List ℕ) (less more : ℕ) → less ≤ more
+    → Keeps doc h lists sites answers less → Keeps doc h lists sites answers more
+keeps_room doc h lists sites answers less more le k = record {
+  sound = k.sound;
+  legal = k.legal;
+  lists_long = k.lists_long;
+  lists_are = k.lists_are;
+  sites_long = k.sites_long;
+  sites_are = k.sites_are;
+  answers_are = k.answers_are;
+  room = omega (arith, k.room, le);
+}

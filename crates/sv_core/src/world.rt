@@ -7,11 +7,11 @@ use std::marker::Model;
 use std::sync::Arc;
 
 use sv_app::Request;
-use sv_value::{Cut, NoMemory, Packet, Site};
+use sv_value::{Cut, List, NoMemory, Packet, Site};
 
 use crate::docs::Doc;
-use crate::entries::{Delivered, Entry, Reply};
-use crate::ops::Op;
+use crate::entries::{Delivered, Entry, Outcome, Reply};
+use crate::ops::{Op, RowEffect};
 use crate::readiness::{judge, list_of, number};
 use crate::rows::{KeptRow, Rows};
 use crate::runs::{Ran, run};
@@ -45,8 +45,11 @@ impl Model for World {
 impl World {
     ghost use Rattle.sv_core.specs.Document.{document_of};
     ghost use Rattle.sv_core.specs.Sound.{Sound};
-    ghost use Rattle.sv_core.specs.History.{cut_of, answered, tables_at, answers};
-    ghost use Rattle.sv_core.specs.Legal.{Legal, FitsDoc, home};
+    ghost use Rattle.sv_core.specs.History.{cut_of, published, answered, tables_at, answers};
+    ghost use Rattle.sv_core.specs.Cut.{as_deps};
+    ghost use Rattle.sv_core.specs.Run.{run_of};
+    ghost use Rattle.sv_core.specs.Legal.{Legal, IsNext, FitsDoc, home};
+    ghost use Rattle.sv_core.specs.WorldState.{IsReply, Publishes};
     ghost use Rattle.sv_core.specs.Rows.{entry_of};
     ghost use Rattle.sv_core.specs.World.{answer_due, delivered, after_delivery};
 
@@ -95,6 +98,29 @@ impl World {
         }
     }
 
+    /// Runs the session's next request at its site, answers it, and publishes what it changes; the place of the new entry.
+    /// Without memory the world stays as it was.
+    pub fn ask(&mut self, alloc: Global, session: u16, request: Request) -> Result<u32, NoMemory>
+        requires from { 1 ≤ session }
+        requires to { session ≤ 64 }
+        requires fits { FitsDoc self.old.doc request }
+        requires awaited { answers self.old.history < self.old.doc.asks }
+        ensures place { IfOk result (λ at. at ≡ length self.old.history) }
+        ensures answer { OnOk result (self.new ≡ record self.old { history = answer_due self.old.doc self.old.history session request ∷ self.old.history }) }
+        ensures err { OnErr result (self.new ≡ self.old) }
+    {
+        let site = self.home(session);
+        let Ran { outcome, effects } = self.ran(alloc, site, &request)?;
+        if effects.is_empty() {
+            let entry = self.answer(session, site, request, outcome, None);
+            return Ok(self.reply(session, entry));
+        }
+        let packet = self.next_packet(site);
+        let op = self.next_op(site, effects);
+        let entry = self.answer(session, site, request, outcome, Some(packet));
+        self.publish(session, site, entry, op)
+    }
+
     /// Takes a packet to a site: it is applied where the site has all that it was made on. Takes no memory.
     pub fn deliver(&mut self, site: Site, packet: Packet) -> Delivered
         requires { site ≤ self.old.doc.sites }
@@ -129,10 +155,101 @@ impl World {
         requires applied { delivered self.old.doc self.old.history site packet.now ≡ Delivered.Applied }
         ensures { self.new ≡ record self.old { history = Entry.Apply site packet.now ∷ self.old.history } }
     {
+        let place = site.number() as usize - 1;
         match self.history.push(Entry::Apply { site, packet: *packet }) {
             Ok(()) => {
                 let op = &list_of(&self.published, packet)[number(packet)];
-                self.sites[site.number() as usize - 1].bring(packet, op.effects.items());
+                self.sites[place].bring(packet, op.effects.items());
+            }
+            Err(_) => unreachable!(),
+        }
+    }
+
+    fn ran(&self, alloc: Global, site: Site, request: &Request) -> Result<Ran, NoMemory>
+        requires { site ≤ self.now.doc.sites }
+        ensures { IfOk result (λ ran. ran ≡ run_of request.now (tables_at self.now.doc self.now.history site)) }
+    {
+        run(alloc, request, &self.sites[site.number() as usize - 1].rows)
+    }
+
+    /// The name of the site's next operation.
+    fn next_packet(&self, site: Site) -> Packet
+        requires { site ≤ self.now.doc.sites }
+        ensures { result ≡ Packet.Blue site (length (published self.now.doc self.now.history site)) }
+    {
+        Packet::Blue {
+            site,
+            seq: self.published[site.number() as usize - 1].len() as u32,
+        }
+    }
+
+    /// The operation that makes these changes on what the site has.
+    fn next_op(&self, site: Site, effects: List<RowEffect>) -> Op
+        requires { site ≤ self.now.doc.sites }
+        ensures { result ≡ record { site = site; deps = as_deps (cut_of self.now.history site); effects = effects } }
+    {
+        Op {
+            site,
+            deps: self.cut(site),
+            effects,
+        }
+    }
+
+    /// The next answer of the session, at this site.
+    fn answer(&self, session: u16, site: Site, request: Request, outcome: Outcome, packet: Option<Packet>) -> Entry
+        requires from { 1 ≤ session }
+        requires to { session ≤ 64 }
+        ensures { result ≡ Entry.Answer session (answered self.now.history session) request site (length self.now.history) (Reply.Ran outcome) packet }
+    {
+        Entry::Answer {
+            session,
+            index: self.answered(session),
+            request,
+            site,
+            at: self.history.len() as u32,
+            reply: Reply::Ran(outcome),
+            packet,
+        }
+    }
+
+    /// Adds an answer that changes nothing.
+    fn reply(&mut self, session: u16, entry: Entry) -> u32
+        requires from { 1 ≤ session }
+        requires to { session ≤ 64 }
+        requires next { IsNext self.old.doc self.old.history entry }
+        requires quiet { IsReply session entry }
+        ensures place { result ≡ length self.old.history }
+        ensures history { self.new ≡ record self.old { history = entry ∷ self.old.history } }
+    {
+        let at = self.history.len() as u32;
+        match self.history.push(entry) {
+            Ok(()) => {
+                self.answered[session as usize - 1] += 1;
+                at
+            }
+            Err(_) => unreachable!(),
+        }
+    }
+
+    /// Adds an answer, and publishes its operation.
+    fn publish(&mut self, session: u16, site: Site, entry: Entry, op: Op) -> Result<u32, NoMemory>
+        requires from { 1 ≤ session }
+        requires to { session ≤ 64 }
+        requires site { site ≤ self.old.doc.sites }
+        requires next { IsNext self.old.doc self.old.history entry }
+        requires news { Publishes self.old.doc self.old.history session site op entry }
+        ensures place { IfOk result (λ at. at ≡ length self.old.history) }
+        ensures answer { OnOk result (self.new ≡ record self.old { history = entry ∷ self.old.history }) }
+        ensures err { OnErr result (self.new ≡ self.old) }
+    {
+        let place = site.number() as usize - 1;
+        let at = self.history.len() as u32;
+        let packet = self.next_packet(site);
+        self.sites[place].publish(&mut self.published[place], &packet, op)?;
+        match self.history.push(entry) {
+            Ok(()) => {
+                self.answered[session as usize - 1] += 1;
+                Ok(at)
             }
             Err(_) => unreachable!(),
         }
