@@ -8,6 +8,7 @@ pub mod ListedLaws
 pub mod MediumLaws
 pub mod MissingLaws
 pub mod PlaceListLaws
+pub mod PlainLaws
 pub mod PlainTableLaws
 pub mod RoomLaws
 pub mod RowLaws

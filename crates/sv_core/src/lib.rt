@@ -4,6 +4,8 @@
 mod docs;
 mod entries;
 mod ops;
+mod plain_counts;
+mod plain_entries;
 mod plain_tables;
 mod readiness;
 mod rows;

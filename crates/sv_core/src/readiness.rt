@@ -46,7 +46,7 @@ pub fn number(packet: &Packet) -> usize
 }
 
 /// The list of a site, of these; empty where there is none.
-fn blue_list(lists: &[Vec<Op>], site: Site) -> &[Op]
+pub(crate) fn blue_list(lists: &[Vec<Op>], site: Site) -> &[Op]
     ensures value { result.now ≡ get_or (map (λ ops. ops.items) lists.now) (site - 1) [] }
     ensures one { 1 ≤ site }
 {

@@ -18,7 +18,7 @@ pub struct Ran {
     pub effects: List<RowEffect>,
 }
 
-fn first_arg(args: &[Arg]) -> i64
+pub(crate) fn first_arg(args: &[Arg]) -> i64
     ensures { result ≡ first_arg args.now }
 {
     match args {
@@ -27,7 +27,7 @@ fn first_arg(args: &[Arg]) -> i64
     }
 }
 
-fn second_arg(args: &[Arg]) -> i64
+pub(crate) fn second_arg(args: &[Arg]) -> i64
     ensures { result ≡ second_arg args.now }
 {
     match args {
@@ -49,7 +49,7 @@ fn place_asked(request: &Request) -> Place
     }
 }
 
-fn fits64(n: &i128) -> bool
+pub(crate) fn fits64(n: &i128) -> bool
     ensures { result ≡ fits64 n.now }
 {
     -9223372036854775808 <= *n && *n < 9223372036854775808

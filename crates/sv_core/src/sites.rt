@@ -15,7 +15,7 @@ pub struct SiteState {
     pub rows: Rows,
 }
 
-fn add(cut: &mut Cut, packet: &Packet)
+pub(crate) fn add(cut: &mut Cut, packet: &Packet)
     requires { counts cut.old (origin packet.now) < 4294967295 }
     ensures { (o : ℕ) → counts cut.new o ≡ more (counts cut.old) (origin packet.now) o }
 {

@@ -1,0 +1,75 @@
+ghost use Rattle.std.specs.Prelude.{◌≡◌, ◌≤◌, ℕ, reverse};
+ghost use Rattle.sv_value.specs.Cuts.{counts};
+ghost use Rattle.sv_core.specs.History.{cut_of, is_answer, is_answer_of, answers, answered};
+ghost use Rattle.sv_core.specs.Plain.{with_entry};
+
+use sv_value::{Cut, Site};
+
+use crate::entries::Entry;
+use crate::sites::add;
+
+fn is_answer(entry: &Entry) -> bool
+    ensures { result ≡ is_answer entry.now }
+{
+    match entry {
+        Entry::Answer { .. } => true,
+        Entry::Apply { .. } => false,
+    }
+}
+
+fn is_answer_of(entry: &Entry, wanted: u16) -> bool
+    ensures { result ≡ is_answer_of wanted entry.now }
+{
+    match entry {
+        Entry::Answer { session, .. } => wanted == *session,
+        Entry::Apply { .. } => false,
+    }
+}
+
+/// How many of the entries, oldest first, answer a request.
+pub fn answers(history: &[Entry]) -> usize
+    ensures { result ≡ answers (reverse history.now) }
+{
+    history.iter().filter(|entry| is_answer(entry)).count()
+}
+
+/// How many of the entries, oldest first, answer a request of the session.
+pub fn answered(history: &[Entry], session: u16) -> usize
+    ensures { result ≡ answered (reverse history.now) session }
+{
+    history
+        .iter()
+        .filter(|entry| is_answer_of(entry, session))
+        .count()
+}
+
+/// Counts what the entry brings the site.
+fn count_entry(cut: &mut Cut, entry: &Entry, site: Site)
+    requires { (o : ℕ) → with_entry entry.now site (counts cut.old) o ≤ 4294967295 }
+    ensures { (o : ℕ) → counts cut.new o ≡ with_entry entry.now site (counts cut.old) o }
+{
+    match entry {
+        Entry::Answer {
+            site: own,
+            packet: Some(packet),
+            ..
+        } if own.number() == site.number() => add(cut, packet),
+        Entry::Apply {
+            site: target,
+            packet,
+        } if target.number() == site.number() => add(cut, packet),
+        _ => {}
+    }
+}
+
+/// What the site has after these entries, oldest first.
+pub fn cut_of(history: &[Entry], site: Site) -> Cut
+    requires { (o : ℕ) → cut_of (reverse history.now) site o ≤ 4294967295 }
+    ensures { (o : ℕ) → counts result o ≡ cut_of (reverse history.now) site o }
+{
+    let mut cut = Cut::empty();
+    for entry in history {
+        count_entry(&mut cut, entry, site);
+    }
+    cut
+}
