@@ -3,11 +3,15 @@ use Rattle.std.proofs.Common.{◌≡◌, ℕ, zero, suc, ◌+◌, ◌<◌, ◌�
 use Rattle.std.specs.Prelude.{reverse, count_by, cond}
 use Rattle.std.proofs.lemmas.List.{take_more, take_all, take-append-drop, reverse-append}
 use Rattle.std.proofs.lemmas.List.Recursion.{is_count_by}
+use Rattle.sv_core.specs.Document.{Document}
+use Rattle.sv_core.specs.declared.ops.Op.{Op}
 use Rattle.sv_core.specs.declared.entries.Entry.{Entry}
-use Rattle.sv_core.specs.History.{History, count_where, brings, cut_of}
 use Rattle.sv_core.specs.Cut.{Cut}
-use Rattle.sv_core.specs.Plain.{with_entry}
-use Rattle.sv_core.proofs.HistoryLaws.{cut_grows}
+use Rattle.sv_core.specs.TablesOfCut.{tables_of}
+use Rattle.sv_core.specs.History.{History, count_where, brings, cut_of, published, tables_at}
+use Rattle.sv_core.specs.Plain.{medium_of, with_entry, Told}
+use Rattle.sv_core.proofs.HistoryLaws.{cut_grows, within}
+use Rattle.sv_core.proofs.RoomLaws.{published_few}
 
 one_where : (p : Entry → Bool) (b : Bool) (m n : ℕ) → (if b then suc (m + n) else (m + n)) ≡ (if b then suc m else m) + n
 one_where p true m n = omega arith
@@ -68,3 +72,13 @@ cut_fits entries i e s cut lt is same fits o =
     let b : cut_of (reverse (take (i + 1) entries)) s o ≤ cut_of (reverse entries) s o = cut_before entries (i + 1) s o in
     let d : cut_of (reverse entries) s o ≤ 4294967295 = fits o in
     omega (arith, a, b, d)
+
+-- what is known of a legal history that was told
+pub told_fits : (doc : Document) (h : History) (lists : List (List Op)) (s : ℕ) → Told doc h lists → (o : ℕ) → cut_of h s o ≤ 4294967295
+told_fits doc h lists s told o =
+    let a : cut_of h s o ≤ length (published doc h o) = within doc h told.legal s o in
+    let b : length (published doc h o) ≤ doc.asks = published_few doc h (told.some, told.few) told.legal o in
+    omega (arith, a, b, told.small)
+
+pub told_tables : (doc : Document) (h : History) (lists : List (List Op)) (s : ℕ) (cut : Cut) → Told doc h lists → ((o : ℕ) → cut o ≡ cut_of h s o) → tables_of doc.init (medium_of lists) cut ≡ tables_at doc h s
+told_tables doc h lists s cut told same = λ i. tables_of doc.init (λ o. told.lists_are o i) (λ o. same o i)

@@ -40,7 +40,7 @@ impl Before<'_> {
 
     ghost use Rattle.sv_core.specs.Run.{run_of};
     ghost use Rattle.sv_core.specs.History.{cut_of, op_of, news, published, tables_at};
-    ghost use Rattle.sv_core.specs.Legal.{IsPacket, IsApply, IsNext};
+    ghost use Rattle.sv_core.specs.Legal.{home, IsPacket, IsApply, IsNext};
     ghost use Rattle.sv_core.specs.Plain.{Told, IsAsked, IsPlaced, IsJudged};
 
     /// What the site has.
@@ -66,5 +66,81 @@ impl Before<'_> {
     {
         let tables = self.tables(alloc, site)?;
         run(alloc, request, &tables)
+    }
+
+    /// Whether the session may ask the request now.
+    fn is_asked(&self, session: u16, request: &Request) -> bool
+        ensures { IsTrue result ↔ IsAsked (document_of self.now.doc.now) (reverse self.now.history.now) session request.now }
+    {
+        1 <= session
+            && session <= 64
+            && answers(self.history) < self.doc.asks as usize
+            && fits(self.doc, request)
+    }
+
+    /// Whether the site is the session's, of a document that has sites.
+    fn is_home(&self, session: u16, site: Site) -> bool
+        requires sites { 1 ≤ self.now.doc.now.sites }
+        requires session { 1 ≤ session }
+        ensures { IsTrue result ↔ (site ≡ home (document_of self.now.doc.now) session) }
+    {
+        site.number() as u16 == 1 + (session - 1) % self.doc.sites as u16
+    }
+
+    /// Whether the numbers of an answer are the next ones.
+    fn is_placed(&self, session: u16, index: u32, site: Site, at: u32) -> bool
+        requires sites { 1 ≤ self.now.doc.now.sites }
+        requires session { 1 ≤ session }
+        ensures { IsTrue result ↔ IsPlaced (document_of self.now.doc.now) (reverse self.now.history.now) session index site at }
+    {
+        index as usize == answered(self.history, session)
+            && self.is_home(session, site)
+            && at as usize == self.history.len()
+    }
+
+    /// Whether the packet is the one of an answer that makes these changes.
+    fn is_named(&self, site: Site, effects: &[RowEffect], packet: &Option<Packet>) -> bool
+        requires { Told (document_of self.now.doc.now) (reverse self.now.history.now) (map (λ ops. ops.items) self.now.published.now) }
+        ensures { IsTrue result ↔ IsPacket (document_of self.now.doc.now) (reverse self.now.history.now) site (length self.now.history.now) effects.now packet.now }
+    {
+        match packet {
+            None => effects.is_empty(),
+            Some(Packet::Blue { site: origin, seq }) => {
+                !effects.is_empty()
+                    && origin.number() == site.number()
+                    && *seq as usize == blue_list(self.published, site).len()
+            }
+            Some(Packet::Red { .. }) => false,
+        }
+    }
+
+    /// Whether the reply and the packet are those of the run.
+    fn is_judged(
+        &self,
+        alloc: Global,
+        site: Site,
+        request: &Request,
+        reply: &Reply,
+        packet: &Option<Packet>,
+    ) -> Result<bool, NoMemory>
+        requires { Told (document_of self.now.doc.now) (reverse self.now.history.now) (map (λ ops. ops.items) self.now.published.now) }
+        ensures { IfOk result (λ yes. IsTrue yes ↔ IsJudged (document_of self.now.doc.now) (reverse self.now.history.now) request.now site reply.now packet.now) }
+    {
+        let ran = self.ran(alloc, site, request)?;
+        Ok(*reply == Reply::Ran(ran.outcome) && self.is_named(site, ran.effects.items(), packet))
+    }
+
+    /// Whether the packet is published, the site lacks it, and has all that it was made on.
+    fn is_apply(&self, site: Site, packet: &Packet) -> bool
+        requires { Told (document_of self.now.doc.now) (reverse self.now.history.now) (map (λ ops. ops.items) self.now.published.now) }
+        ensures { IsTrue result ↔ IsApply (document_of self.now.doc.now) (reverse self.now.history.now) site packet.now }
+    {
+        let ops = list_of(self.published, packet);
+        let place = number(packet);
+        if place >= ops.len() {
+            return false;
+        }
+        let cut = self.cut(site);
+        !cut.has(*packet) && cut.covers(&ops[place].deps) && site.number() <= self.doc.sites
     }
 }
