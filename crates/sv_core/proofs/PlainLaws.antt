@@ -1,16 +1,28 @@
 -- A history read from its oldest entry on.
-use Rattle.std.proofs.Common.{◌≡◌, ℕ, zero, suc, ◌+◌, ◌<◌, ◌≤◌, if◌then◌else◌, Bool, true, false, List, [], ◌∷◌, ◌++◌, length, take, drop, get_or, refl, sym, ap, subst, ◌∙◌, arith}
-use Rattle.std.specs.Prelude.{reverse, count_by, cond}
-use Rattle.std.proofs.lemmas.List.{take_more, take_all, take-append-drop, reverse-append}
+use Rattle.std.proofs.Common.{◌≡◌, ℕ, zero, suc, ◌+◌, ◌<◌, ◌≤◌, if◌then◌else◌, Bool, true, false, List, [], ◌∷◌, ◌++◌, length, take, drop, get_or, set, ◌⊎◌, inl, inr, ◌-◌, ◌==◌, Option, Some, None, refl, sym, ap, subst, ◌∙◌, arith}
+use Rattle.std.specs.Prelude.{reverse, count_by, cond, map, Result, Ok, Err, IfOk, IsTrue, ◌↔◌}
+use Rattle.std.proofs.lemmas.List.{take_more, take-append-drop, reverse-append, get_or-set_same, get_or-set_other, map-set, length-map, get_or-map}
+use Rattle.std.proofs.lemmas.Grind.{same_number_lists}
+use Rattle.std.proofs.lemmas.Bool.{cases_eq}
 use Rattle.std.proofs.lemmas.List.Recursion.{is_count_by}
+use Rattle.sv_value.specs.declared.packets.Packet.{Packet}
+use Rattle.sv_value.specs.declared.cuts.Cut.{Cut as CodeCut}
+use Rattle.sv_value.specs.Cuts.{counts, origin}
+use Rattle.sv_app.specs.declared.requests.Request.{Request}
 use Rattle.sv_core.specs.Document.{Document}
 use Rattle.sv_core.specs.declared.ops.Op.{Op}
 use Rattle.sv_core.specs.declared.entries.Entry.{Entry}
-use Rattle.sv_core.specs.Cut.{Cut}
+use Rattle.sv_core.specs.declared.entries.Entry.TheVariants.{Answer, Apply}
+use Rattle.sv_core.specs.declared.entries.Reply.{Reply}
+use Rattle.sv_core.specs.declared.entries.Reply.TheVariants.{Ran}
+use Rattle.sv_core.specs.Run.{run_of}
+use Rattle.sv_core.specs.Legal.{Legal, IsNext, IsAnswer, IsPacket}
+use Rattle.sv_core.specs.Cut.{Cut, Medium, all_sites, as_deps}
 use Rattle.sv_core.specs.TablesOfCut.{tables_of}
-use Rattle.sv_core.specs.History.{History, count_where, brings, cut_of, published, tables_at}
-use Rattle.sv_core.specs.Plain.{medium_of, with_entry, Told}
-use Rattle.sv_core.proofs.HistoryLaws.{cut_grows, within}
+use Rattle.sv_core.specs.History.{History, count_where, brings, cut_of, back_to, op_of, news, with_news, published, tables_at}
+use Rattle.sv_core.specs.Plain.{medium_of, with_entry, named_by_site, Told, IsAsked, IsPlaced, IsJudged}
+use Rattle.sv_core.proofs.CutLaws.{same_test, other_test}
+use Rattle.sv_core.proofs.HistoryLaws.{cut_grows, within, back_to_now, packed}
 use Rattle.sv_core.proofs.RoomLaws.{published_few}
 
 one_where : (p : Entry → Bool) (b : Bool) (m n : ℕ) → (if b then suc (m + n) else (m + n)) ≡ (if b then suc m else m) + n
@@ -82,3 +94,141 @@ told_fits doc h lists s told o =
 
 pub told_tables : (doc : Document) (h : History) (lists : List (List Op)) (s : ℕ) (cut : Cut) → Told doc h lists → ((o : ℕ) → cut o ≡ cut_of h s o) → tables_of doc.init (medium_of lists) cut ≡ tables_at doc h s
 told_tables doc h lists s cut told same = λ i. tables_of doc.init (λ o. told.lists_are o i) (λ o. same o i)
+
+-- an answer that is due has its three parts, and these are all
+pub asked_of : (doc : Document) (h : History) (session index : ℕ) (request : Request) (site at : ℕ) (reply : Reply) (packet : Option Packet)
+    → IsAnswer doc h session index request site at reply packet → IsAsked doc h session request
+asked_of doc h session index request site at reply packet a = record { from = a.from; to = a.to; awaited = a.awaited; fits = a.fits }
+
+pub placed_of : (doc : Document) (h : History) (session index : ℕ) (request : Request) (site at : ℕ) (reply : Reply) (packet : Option Packet)
+    → IsAnswer doc h session index request site at reply packet → IsPlaced doc h session index site at
+placed_of doc h session index request site at reply packet a = record { next = a.next; lives = a.lives; place = a.place }
+
+pub judged_of : (doc : Document) (h : History) (session index : ℕ) (request : Request) (site at : ℕ) (reply : Reply) (packet : Option Packet)
+    → IsAnswer doc h session index request site at reply packet → IsJudged doc h request site reply packet
+judged_of doc h session index request site at reply packet a = record {
+  judged = a.judged ∙ ap (λ g. Ran (run_of request (tables_at doc g site)).outcome) now;
+  named = subst (λ n. IsPacket doc h site n (run_of request (tables_at doc h site)).effects packet) a.place (subst (λ g. IsPacket doc h site at (run_of request (tables_at doc g site)).effects packet) now a.named);
+}
+  where
+    now : back_to at h ≡ h
+    now = back_to_now at h a.place
+
+pub answer_of_parts : (doc : Document) (h : History) (session index : ℕ) (request : Request) (site at : ℕ) (reply : Reply) (packet : Option Packet)
+    → IsAsked doc h session request → IsPlaced doc h session index site at → IsJudged doc h request site reply packet → IsAnswer doc h session index request site at reply packet
+answer_of_parts doc h session index request site at reply packet asked placed judged = record {
+  from = asked.from;
+  to = asked.to;
+  awaited = asked.awaited;
+  next = placed.next;
+  lives = placed.lives;
+  fits = asked.fits;
+  place = placed.place;
+  judged = judged.judged ∙ sym (ap (λ g. Ran (run_of request (tables_at doc g site)).outcome) now);
+  named = subst (λ g. IsPacket doc h site at (run_of request (tables_at doc g site)).effects packet) (sym now)
+      (subst (λ n. IsPacket doc h site n (run_of request (tables_at doc h site)).effects packet) (sym placed.place) judged.named);
+}
+  where
+    now : back_to at h ≡ h
+    now = back_to_now at h placed.place
+
+-- a cut as operations carry it, by its counts
+site_at : (f : Cut) (k : ℕ) → k < 8 → get_or (map f all_sites) k 0 ≡ f (suc k)
+site_at f zero lt = refl
+site_at f (suc zero) lt = refl
+site_at f (suc (suc zero)) lt = refl
+site_at f (suc (suc (suc zero))) lt = refl
+site_at f (suc (suc (suc (suc zero)))) lt = refl
+site_at f (suc (suc (suc (suc (suc zero))))) lt = refl
+site_at f (suc (suc (suc (suc (suc (suc zero)))))) lt = refl
+site_at f (suc (suc (suc (suc (suc (suc (suc zero))))))) lt = refl
+site_at f (suc (suc (suc (suc (suc (suc (suc (suc n)))))))) lt = absurd (omega (arith, lt))
+
+deps_are : (cut : CodeCut) (f : Cut) → length cut.blue ≡ 8 → ((o : ℕ) → counts cut o ≡ f o) → cut ≡ as_deps f
+deps_are cut f long each = λ i. record { blue = blue i; reds = each 0 i }
+  where
+    blue : cut.blue ≡ map f all_sites
+    blue = same_number_lists cut.blue (map f all_sites) long (λ k lt. each (suc k) ∙ sym (site_at f k (omega (arith, lt, long))))
+
+-- a test of a fact is one of each fact that says the same
+pub if_same : {E : Type 0} (r : Result Bool E) (P Q : Type 0) → (P → Q) → (Q → P) → IfOk r (λ b. IsTrue b ↔ P) → IfOk r (λ b. IsTrue b ↔ Q)
+if_same (Ok b) P Q to from e = (λ t. to (e.0 t), λ q. e.1 (from q))
+if_same (Err error) P Q to from e = tt
+
+-- the operation of an answer that is due now
+pub op_is : (doc : Document) (h : History) (site : ℕ) (request : Request) (op : Op) → op.site ≡ site → length op.deps.blue ≡ 8
+    → ((o : ℕ) → counts op.deps o ≡ cut_of h site o) → op.effects ≡ (run_of request (tables_at doc h site)).effects → op ≡ op_of doc (published doc h) h site (length h) request
+op_is doc h site request op at long each effects = λ i. record { site = at i; deps = deps i; effects = made i }
+  where
+    now : h ≡ back_to (length h) h
+    now = sym (back_to_now (length h) h refl)
+
+    deps : op.deps ≡ as_deps (cut_of (back_to (length h) h) site)
+    deps = deps_are op.deps (cut_of h site) long each ∙ ap (λ g. as_deps (cut_of g site)) now
+
+    made : op.effects ≡ (run_of request (tables_of doc.init (published doc h) (cut_of (back_to (length h) h) site))).effects
+    made = effects ∙ ap (λ g. (run_of request (tables_of doc.init (published doc h) (cut_of g site))).effects) now
+
+pub news_is : (doc : Document) (h : History) (session index : ℕ) (request : Request) (site at : ℕ) (reply : Reply) (packet : Packet) (op : Op)
+    → IsAnswer doc h session index request site at reply (Some packet) → op ≡ op_of doc (published doc h) h site (length h) request
+    → named_by_site (Some op) ≡ news doc (published doc h) h (Answer session index request site at reply (Some packet))
+news_is doc h session index request site at reply packet op a is = λ i. Some (origin_is i, op_is_now i)
+  where
+    origin_is : op.site ≡ origin packet
+    origin_is = ap (λ x. x.site) is ∙ sym (packed doc h session index request site at reply packet a).origin_is
+
+    op_is_now : op ≡ op_of doc (published doc h) h site at request
+    op_is_now = is ∙ ap (λ n. op_of doc (published doc h) h site n request) (sym a.place)
+
+-- the lists after one operation was put at the end of its site's list
+pub lists_pushed : (lists : List (List Op)) (site : ℕ) (op : Op) → length lists ≡ 8 → 1 ≤ site → site ≤ 8
+    → (o : ℕ) → medium_of (set lists (site - 1) (get_or lists (site - 1) [] ++ op ∷ [])) o ≡ with_news (Some (site, op)) (medium_of lists) o
+lists_pushed lists site op long one most zero = rw (other_test 0 site (λ e. omega (arith, e, one))) refl
+lists_pushed lists site op long one most (suc place) = from (cases_eq place (site - 1))
+  where
+    after : List (List Op)
+    after = set lists (site - 1) (get_or lists (site - 1) [] ++ op ∷ [])
+
+    test : (b : Bool) → (suc place == site) ≡ b → get_or after place [] ≡ (if b then get_or lists place [] ++ op ∷ [] else get_or lists place []) → get_or after place [] ≡ (if suc place == site then get_or lists place [] ++ op ∷ [] else get_or lists place [])
+    test b is e = rw is e
+
+    from : (place ≡ site - 1) ⊎ (place ≡ site - 1 → ⊥) → get_or after place [] ≡ (if suc place == site then get_or lists place [] ++ op ∷ [] else get_or lists place [])
+    from (inl is) = test true (same_test (suc place) site (omega (arith, is, one)))
+        (ap (λ p. get_or after p []) is ∙ get_or-set_same lists (site - 1) (get_or lists (site - 1) [] ++ op ∷ []) [] (omega (arith, one, most, long)) ∙ ap (λ p. get_or lists p [] ++ op ∷ []) (sym is))
+    from (inr apart) = test false (other_test (suc place) site (λ e. apart (omega (arith, e, one)))) (get_or-set_other lists (site - 1) place (get_or lists (site - 1) [] ++ op ∷ []) [] apart)
+
+pub publish_is : {V : Type 0} (items : V → List Op) (vs : List V) (v now : V) (site n : ℕ) (op : Op) → length vs ≡ 8 → 1 ≤ n → n ≤ 8 → n ≡ site → v ≡ get_or vs (n - 1) v → items now ≡ items v ++ op ∷ []
+    → (o : ℕ) → medium_of (map items (set vs (n - 1) now)) o ≡ with_news (Some (site, op)) (medium_of (map items vs)) o
+publish_is items vs v now site n op long one most same is pushed o =
+    ap (λ l. medium_of l o) (map-set items vs (n - 1) now ∙ ap (set (map items vs) (n - 1)) was)
+    ∙ lists_pushed (map items vs) n op (length-map vs items ∙ long) one most o
+    ∙ ap (λ k. with_news (Some (k, op)) (medium_of (map items vs)) o) same
+  where
+    was : items now ≡ get_or (map items vs) (n - 1) [] ++ op ∷ []
+    was = pushed ∙ ap (λ l. l ++ op ∷ []) (ap items is ∙ sym (get_or-map items vs (n - 1) v [] (omega (arith, one, most, long))))
+
+-- one empty list more
+pub empty_more : {V : Type 0} (items : V → List Op) (vs : List V) (v : V) → items v ≡ [] → ((o : ℕ) → medium_of (map items vs) o ≡ []) → (o : ℕ) → medium_of (map items (vs ++ v ∷ [])) o ≡ []
+empty_more items vs v none all zero = refl
+empty_more items [] v none all (suc zero) = none
+empty_more items [] v none all (suc (suc place)) = refl
+empty_more items (x ∷ vs) v none all (suc zero) = all 1
+empty_more items (x ∷ vs) v none all (suc (suc place)) = empty_more items vs v none (λ o. rest o) (suc place)
+  where
+    rest : (o : ℕ) → medium_of (map items vs) o ≡ []
+    rest zero = refl
+    rest (suc p) = all (suc (suc p))
+
+-- a legal history has legal beginnings
+legal_behind : (doc : Document) (g h : History) → Legal doc (g ++ h) → Legal doc h
+legal_behind doc [] h legal = legal
+legal_behind doc (e ∷ g) h legal = legal_behind doc g h legal.1
+
+pub next_of : (doc : Document) (entries : List Entry) (i : ℕ) (e : Entry) → i < length entries → e ≡ get_or entries i e → Legal doc (reverse entries) → IsNext doc (reverse (take i entries)) e
+next_of doc entries i e lt is legal = before.0
+  where
+    beginning : Legal doc (reverse (take (i + 1) entries))
+    beginning = legal_behind doc (reverse (drop (i + 1) entries)) (reverse (take (i + 1) entries)) (subst (Legal doc) (reverse_parts entries (i + 1)) legal)
+
+    before : Legal doc (e ∷ reverse (take i entries))
+    before = subst (Legal doc) (reverse_more entries i e lt is) beginning

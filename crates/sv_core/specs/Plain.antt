@@ -1,5 +1,5 @@
 -- What the plain program has at hand: the lists of the sites' blue operations as a medium, and all changes of held operations in one list.
-use Rattle.std.specs.Prelude.{◌≡◌, ℕ, zero, suc, ◌<◌, ◌≤◌, ◌+ℤ◌, if◌then◌else◌, List, [], ◌++◌, length, get_or, Option}
+use Rattle.std.specs.Prelude.{◌≡◌, ℕ, zero, suc, ◌<◌, ◌≤◌, ◌+ℤ◌, if◌then◌else◌, List, [], ◌++◌, length, get_or, Option, Some, None}
 use Rattle.std.specs.List.{flat_map}
 use Rattle.sv_value.specs.declared.packets.Packet.{Packet}
 use Rattle.sv_app.specs.declared.places.Place.{Place}
@@ -38,6 +38,11 @@ row_by init es p = record { count = initial p init +ℤ gained p es }
 -- a cut with what an entry brings the site
 abbrev pub with_entry : Entry → ℕ → Cut → Cut
 with_entry e s cut o = if brings e s o then suc (cut o) else cut o
+
+-- an operation with its site, which is the origin of its list
+abbrev pub named_by_site : Option Op → Option (ℕ × Op)
+named_by_site None = None
+named_by_site (Some op) = Some (op.site, op)
 
 -- the history is legal, and these are the lists that it published; its counts fit 32 bits
 pub record Told (doc : Document) (h : History) (lists : List (List Op)) : Type 0 where

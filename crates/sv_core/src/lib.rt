@@ -4,6 +4,7 @@
 mod docs;
 mod entries;
 mod ops;
+mod plain;
 mod plain_counts;
 mod plain_entries;
 mod plain_tables;
@@ -16,6 +17,7 @@ mod world;
 pub use docs::Doc;
 pub use entries::{Delivered, Entry, Outcome, Reply};
 pub use ops::{Op, RowEffect};
+pub use plain::{is_legal, tables_of_site};
 pub use plain_tables::tables_of_cut;
 pub use rows::{KeptRow, Rows};
 pub use runs::Ran;

@@ -41,7 +41,7 @@ impl Before<'_> {
     ghost use Rattle.sv_core.specs.Run.{run_of};
     ghost use Rattle.sv_core.specs.History.{cut_of, op_of, news, published, tables_at};
     ghost use Rattle.sv_core.specs.Legal.{home, IsPacket, IsApply, IsNext};
-    ghost use Rattle.sv_core.specs.Plain.{Told, IsAsked, IsPlaced, IsJudged};
+    ghost use Rattle.sv_core.specs.Plain.{named_by_site, Told, IsAsked, IsPlaced, IsJudged};
 
     /// What the site has.
     fn cut(&self, site: Site) -> Cut
@@ -52,7 +52,7 @@ impl Before<'_> {
     }
 
     /// The site's tables.
-    fn tables(&self, alloc: Global, site: Site) -> Result<Rows, NoMemory>
+    pub fn tables(&self, alloc: Global, site: Site) -> Result<Rows, NoMemory>
         requires { Told (document_of self.now.doc.now) (reverse self.now.history.now) (map (λ ops. ops.items) self.now.published.now) }
         ensures { IfOk result (λ rows. rows ≡ tables_at (document_of self.now.doc.now) (reverse self.now.history.now) site) }
     {
@@ -142,5 +142,68 @@ impl Before<'_> {
         }
         let cut = self.cut(site);
         !cut.has(*packet) && cut.covers(&ops[place].deps) && site.number() <= self.doc.sites
+    }
+
+    /// Whether the entry may come next.
+    pub fn is_next(&self, alloc: Global, entry: &Entry) -> Result<bool, NoMemory>
+        requires { Told (document_of self.now.doc.now) (reverse self.now.history.now) (map (λ ops. ops.items) self.now.published.now) }
+        ensures { IfOk result (λ yes. IsTrue yes ↔ IsNext (document_of self.now.doc.now) (reverse self.now.history.now) entry.now) }
+    {
+        match entry {
+            Entry::Answer {
+                session,
+                index,
+                request,
+                site,
+                at,
+                reply,
+                packet,
+            } => {
+                if !self.is_asked(*session, request) {
+                    return Ok(false);
+                }
+                if !self.is_placed(*session, *index, *site, *at) {
+                    return Ok(false);
+                }
+                self.is_judged(alloc, *site, request, reply, packet)
+            }
+            Entry::Apply { site, packet } => Ok(self.is_apply(*site, packet)),
+        }
+    }
+
+    /// The operation that a request makes at the site.
+    fn op(&self, alloc: Global, site: Site, request: &Request) -> Result<Op, NoMemory>
+        requires { Told (document_of self.now.doc.now) (reverse self.now.history.now) (map (λ ops. ops.items) self.now.published.now) }
+        ensures { IfOk result (λ op. op ≡ op_of (document_of self.now.doc.now) (published (document_of self.now.doc.now) (reverse self.now.history.now)) (reverse self.now.history.now) site (length (reverse self.now.history.now)) request.now) }
+    {
+        let Ran {
+            outcome: _,
+            effects,
+        } = self.ran(alloc, site, request)?;
+        Ok(Op {
+            site,
+            deps: self.cut(site),
+            effects,
+        })
+    }
+
+    /// The operation that the next entry publishes, if it publishes one.
+    pub fn news(&self, alloc: Global, entry: &Entry) -> Result<Option<Op>, NoMemory>
+        requires told { Told (document_of self.now.doc.now) (reverse self.now.history.now) (map (λ ops. ops.items) self.now.published.now) }
+        requires next { IsNext (document_of self.now.doc.now) (reverse self.now.history.now) entry.now }
+        ensures { IfOk result (λ op. named_by_site op ≡ news (document_of self.now.doc.now) (published (document_of self.now.doc.now) (reverse self.now.history.now)) (reverse self.now.history.now) entry.now) }
+    {
+        match entry {
+            Entry::Answer {
+                request,
+                site,
+                packet,
+                ..
+            } => match packet {
+                Some(_) => Ok(Some(self.op(alloc, *site, request)?)),
+                None => Ok(None),
+            },
+            Entry::Apply { .. } => Ok(None),
+        }
     }
 }
