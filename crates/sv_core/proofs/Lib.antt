@@ -10,6 +10,7 @@ pub mod MissingLaws
 pub mod PlaceListLaws
 pub mod RoomLaws
 pub mod RowLaws
+pub mod StartLaws
 pub mod StepLaws
 pub mod SumLaws
 pub mod TableLaws
