@@ -1,33 +1,29 @@
 -- The laws of the definitions.
-use Rattle.std.proofs.Common.{◌≡◌, ◌⊎◌, inl, inr, ℕ, zero, suc, ◌<◌, ◌≤◌, ◌-◌, ◌==◌, ◌&&◌, if◌then◌else◌, Bool, true, false, List, [], ◌∷◌, length, drop, Option, Some, None, slice_get, refl, sym, ap, subst, ◌∙◌, arith}
+use Rattle.std.proofs.Common.{◌≡◌, ◌⊎◌, inl, inr, ℕ, zero, suc, ◌<◌, ◌≤◌, ◌==◌, if◌then◌else◌, Bool, true, false, List, [], ◌∷◌, length, Option, Some, None, slice_get, refl, sym, ap, subst, ◌∙◌, arith}
 use Rattle.std.specs.Prelude.{nat_lt}
 use Rattle.std.specs.Option.{option_map}
 use Rattle.std.proofs.lemmas.Bool.Decides.{nat_tests}
 use Rattle.std.proofs.lemmas.Bool.{cases_eq}
 use Rattle.sv_value.specs.declared.packets.Packet.{Packet}
-use Rattle.sv_value.specs.Cuts.{counts, more, Covers, origin, number}
-use Rattle.sv_app.specs.declared.requests.Request.{Request}
-use Rattle.sv_app.specs.declared.requests.InitRow.{InitRow}
+use Rattle.sv_value.specs.Cuts.{counts, Covers, origin, number}
 use Rattle.sv_core.specs.Document.{Document}
 use Rattle.sv_core.specs.Sound.{Sound}
 use Rattle.sv_core.specs.declared.ops.Op.{Op}
-use Rattle.sv_core.specs.declared.entries.Reply.{Reply}
 use Rattle.sv_core.specs.declared.entries.Entry.{Entry}
 use Rattle.sv_core.specs.declared.entries.Entry.TheVariants.{Answer, Apply}
 use Rattle.sv_core.specs.declared.entries.Delivered.{Delivered}
 use Rattle.sv_core.specs.declared.entries.Delivered.TheVariants.{Applied, Duplicate, Early, Unknown}
-use Rattle.sv_core.specs.Cut.{Cut, Medium, as_deps, Closed}
+use Rattle.sv_core.specs.Cut.{Cut, as_deps, Closed}
 use Rattle.sv_core.specs.TablesOfCut.{tables_of}
-use Rattle.sv_core.specs.History.{History, brings, cut_of, back_to, op_of, news, published, tables_at}
-use Rattle.sv_core.specs.Legal.{Legal, IsNext, IsAnswer, IsApply}
-use Rattle.sv_core.specs.World.{first_short, first_missing, origins, packet_at, by_missing, judged_op, delivered_op, delivered}
+use Rattle.sv_core.specs.History.{History, brings, cut_of, back_to, op_of, news, published}
+use Rattle.sv_core.specs.Legal.{Legal, IsNext}
+use Rattle.sv_core.specs.World.{first_short, first_missing, origins, packet_at, by_missing, delivered_op, delivered}
 use Rattle.sv_core.specs.Laws as law
 use Rattle.sv_core.specs.Laws.{EachIsNext, IsLacked, IsCause}
 use Rattle.sv_core.proofs.ListLaws.{get_within, get_some}
 use Rattle.sv_core.proofs.CutLaws.{test_same, both_true}
-use Rattle.sv_core.proofs.HistoryLaws.{cut_grows, within, back_to_now, IsNextBlue, packed, own, counts_cut}
+use Rattle.sv_core.proofs.HistoryLaws.{cut_grows, within, back_to_now, packed, own, counts_cut}
 use Rattle.sv_core.proofs.MediumLaws.{news_get}
-use Rattle.sv_core.proofs.BirthLaws.{Birth, birth}
 use Rattle.sv_core.proofs.TableLaws.{tables_of-more}
 use Rattle.sv_core.proofs.WorldLaws.{is_apply, next_is, same_op, unknown_is}
 
