@@ -10,8 +10,10 @@ pub mod MissingLaws
 pub mod PlaceListLaws
 pub mod PlainLaws
 pub mod PlainTableLaws
+pub mod Promises
 pub mod RoomLaws
 pub mod RowLaws
+pub mod StartLaws
 pub mod StepLaws
 pub mod SumLaws
 pub mod TableLaws

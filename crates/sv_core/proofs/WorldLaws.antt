@@ -1,31 +1,27 @@
 -- A world's fields stay those of its history when an entry is added.
-use Rattle.std.proofs.Common.{◌≡◌, ◌≢◌, ◌⊎◌, inl, inr, ℕ, zero, suc, ◌+◌, ◌*◌, ◌-◌, ◌<◌, ◌≤◌, ◌==◌, nat_lt, if◌then◌else◌, Bool, true, false, List, [], ◌∷◌, ◌++◌, length, take, drop, set, get_or, Option, Some, None, slice_get, refl, sym, ap, subst, ◌∙◌, arith, reverse}
+use Rattle.std.proofs.Common.{◌≡◌, ◌⊎◌, inl, inr, ℕ, zero, suc, ◌*◌, ◌-◌, ◌<◌, ◌≤◌, nat_lt, if◌then◌else◌, Bool, true, false, List, [], ◌∷◌, ◌++◌, length, set, get_or, Option, Some, None, slice_get, refl, sym, ap, subst, ◌∙◌, arith, reverse, map, Vec, Global}
 use Rattle.std.specs.Option.{option_map}
 use Rattle.std.proofs.lemmas.Bool.Decides.{nat_tests}
-use Rattle.std.proofs.lemmas.Bool.{cases_eq}
 use Rattle.std.proofs.lemmas.List.{nil_from_length, reverse-append}
 use Rattle.std.proofs.lemmas.Option.{slice_get_within, slice_get-get_or, slice_get_past}
 use Rattle.sv_value.specs.declared.packets.Packet.{Packet}
 use Rattle.sv_value.specs.declared.packets.Packet.TheVariants.{Blue, Red}
 use Rattle.sv_value.specs.Cuts.{counts, more, Covers, origin, number}
-use Rattle.sv_app.specs.declared.requests.Request.{Request}
-use Rattle.sv_app.specs.Tables.{Tables}
 use Rattle.sv_core.specs.Document.{Document}
 use Rattle.sv_core.specs.declared.ops.Op.{Op}
 use Rattle.sv_core.specs.declared.sites.SiteState.{SiteState}
-use Rattle.sv_core.specs.declared.entries.Delivered.{Delivered}
-use Rattle.sv_core.specs.declared.entries.Delivered.TheVariants.{Applied, Duplicate, Early, Unknown}
+use Rattle.sv_core.specs.declared.entries.Delivered.TheVariants.{Applied, Duplicate, Unknown}
 use Rattle.sv_core.specs.declared.entries.Entry.{Entry}
-use Rattle.sv_core.specs.declared.entries.Entry.TheVariants.{Answer, Apply}
+use Rattle.sv_core.specs.declared.entries.Entry.TheVariants.{Apply}
 use Rattle.sv_core.specs.Cut.{Cut}
-use Rattle.sv_core.specs.Applied.{applied, with_changes}
+use Rattle.sv_core.specs.Applied.{with_changes}
 use Rattle.sv_core.specs.Sound.{Sound}
-use Rattle.sv_core.specs.History.{History, cut_of, published, tables_at, answers, answered}
-use Rattle.sv_core.specs.Legal.{Legal, IsNext, IsApply}
+use Rattle.sv_core.specs.History.{History, cut_of, published, answers}
+use Rattle.sv_core.specs.Legal.{Legal, IsApply}
 use Rattle.sv_core.specs.World.{origins, first_short, first_missing, packet_at, by_missing, judged_op, delivered_op, delivered}
 use Rattle.sv_core.specs.WorldState.{listed, Stands, Keeps}
 use Rattle.sv_core.proofs.CutLaws.{order}
-use Rattle.sv_core.proofs.HistoryLaws.{within, few, IsOrigin}
+use Rattle.sv_core.proofs.HistoryLaws.{within, few}
 use Rattle.sv_core.proofs.BirthLaws.{Birth, birth}
 use Rattle.sv_core.proofs.RoomLaws.{small_origin, length_few, published_few}
 use Rattle.sv_core.specs.Rows.{CanTake}
@@ -269,3 +265,28 @@ keeps_room doc h lists sites answers less more le k = record {
   answers_are = k.answers_are;
   room = omega (arith, k.room, le);
 }
+
+pub length-map-items : (lists : List (Vec Op Global)) → length (map (λ v. v.items) lists) ≡ length lists
+length-map-items [] = refl
+length-map-items (x ∷ lists) = ap suc (length-map-items lists)
+
+pub get-map : (lists : List (Vec Op Global)) (i : ℕ) (v : Vec Op Global) → slice_get lists i ≡ Some v → slice_get (map (λ v. v.items) lists) i ≡ Some v.items
+get-map [] i v e = absurd cc
+get-map (x ∷ lists) zero v e = let same : x ≡ v = cc in ap (λ y. Some y.items) same
+get-map (x ∷ lists) (suc i) v e = get-map lists i v e
+
+-- the list of a site, as it was read by its place
+pub list_at : (doc : Document) (h : History) (lists : List (Vec Op Global)) (site place : ℕ) (read : Vec Op Global) → place ≡ site → 1 ≤ place → site ≤ doc.sites
+    → length (map (λ v. v.items) lists) ≡ doc.sites
+    → ((p : ℕ) (ops : List Op) → slice_get (map (λ v. v.items) lists) p ≡ Some ops → ops ≡ published doc h (suc p)) → read ≡ get_or lists (place - 1) read → read.items ≡ published doc h site
+list_at doc h lists site place read is one most long are reads =
+    are (place - 1) read.items (get-map lists (place - 1) read (read_at lists (place - 1) read (omega (arith, is, one, most, long, length-map-items lists)) reads))
+    ∙ (λ i. published doc h (back i))
+  where
+    back : suc (place - 1) ≡ site
+    back = place_site place (place - 1) one refl ∙ is
+
+pub map-set-items : (lists : List (Vec Op Global)) (i : ℕ) (v : Vec Op Global) → map (λ v. v.items) (set lists i v) ≡ set (map (λ v. v.items) lists) i v.items
+map-set-items [] i v = refl
+map-set-items (x ∷ lists) zero v = refl
+map-set-items (x ∷ lists) (suc i) v = ap (λ l. x.items ∷ l) (map-set-items lists i v)

@@ -3,6 +3,7 @@ use Rattle.std.specs.Prelude.{◌≡◌, ℕ, zero, suc, ◌*◌, ◌-◌, ◌�
 use Rattle.sv_value.specs.declared.packets.Packet.{Packet}
 use Rattle.sv_value.specs.declared.packets.Packet.TheVariants.{Blue, Red}
 use Rattle.sv_value.specs.Cuts.{counts}
+use Rattle.sv_app.specs.Tables.{Tables}
 use Rattle.sv_core.specs.declared.ops.Op.{Op}
 use Rattle.sv_core.specs.declared.sites.SiteState.{SiteState}
 use Rattle.sv_core.specs.declared.entries.Entry.{Entry}
@@ -47,3 +48,9 @@ Publishes doc h k s op (Answer session index request site at reply None) = ⊥
 Publishes doc h k s op (Answer session index request site at reply (Some packet)) =
     (session ≡ k) × (site ≡ s) × (packet ≡ Blue s (length (published doc h s))) × (op ≡ op_of doc (published doc h) h site at request)
 Publishes doc h k s op (Apply site packet) = ⊥
+
+-- so many sites that have nothing but these rows
+pub record AreFresh (count : ℕ) (rows : Tables) (sites : List SiteState) : Type 0 where
+  pub long : length sites ≡ count
+  pub cuts : (place : ℕ) (state : SiteState) → slice_get sites place ≡ Some state → (o : ℕ) → counts state.cut o ≡ 0
+  pub all : (place : ℕ) (state : SiteState) → slice_get sites place ≡ Some state → state.rows ≡ rows

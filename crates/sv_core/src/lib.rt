@@ -3,6 +3,7 @@
 
 mod docs;
 mod entries;
+mod laws;
 mod ops;
 mod plain;
 mod plain_counts;
@@ -16,6 +17,7 @@ mod world;
 
 pub use docs::Doc;
 pub use entries::{Delivered, Entry, Outcome, Reply};
+pub use laws::{answers_by_causes, cuts_closed, equal_cuts, legal_by_places, one_more};
 pub use ops::{Op, RowEffect};
 pub use plain::{is_legal, tables_of_site};
 pub use plain_tables::tables_of_cut;

@@ -1,13 +1,7 @@
-ghost use Rattle.std.specs.Prelude.{◌≡◌, ◌+◌, ◌<◌, ◌≤◌, [], ◌∷◌, ℕ, map, length, reverse, IfOk, OnOk, OnErr};
+ghost use Rattle.std.specs.Prelude.{◌≡◌, ◌+◌, ◌<◌, ◌≤◌, [], ◌∷◌, ℕ, map, length, replicate, reverse, IfOk, OnOk, OnErr};
 ghost use Rattle.std.specs.FinMap.{entries};
 ghost use Rattle.sv_value.specs.Cuts.{counts};
-
-use std::alloc::Global;
-use std::marker::Model;
-use std::sync::Arc;
-
-use sv_app::Request;
-use sv_value::{Cut, List, NoMemory, Packet, Site};
+ghost use Rattle.sv_core.specs.WorldState.{AreFresh};
 
 use crate::docs::Doc;
 use crate::entries::{Delivered, Entry, Outcome, Reply};
@@ -16,6 +10,11 @@ use crate::readiness::{judge, list_of, number};
 use crate::rows::{KeptRow, Rows};
 use crate::runs::{Ran, run};
 use crate::sites::SiteState;
+use std::alloc::Global;
+use std::marker::Model;
+use std::sync::Arc;
+use sv_app::Request;
+use sv_value::{Cut, List, NoMemory, Packet, Site};
 
 /// The sites of a document, what they published, and all that happened to them. Contracts see its document and its
 /// history, which is legal.
@@ -42,6 +41,31 @@ impl Model for World {
     ghost invariant = { λ w. Keeps (document_of w.doc.value) (reverse w.history.items) (map (λ ops. ops.items) w.published.items) w.sites.items w.answered (vec_capacity w.history) };
 }
 
+/// So many lists of operations, all of them empty.
+fn empty_lists(alloc: Global, count: u8) -> Result<Vec<Vec<Op>>, NoMemory>
+    ensures { IfOk result (λ lists. map (λ ops. ops.items) lists.items ≡ replicate count []) }
+{
+    let mut lists = Vec::new(alloc);
+    for _ in 0..count {
+        lists.push(Vec::new(alloc))?;
+    }
+    Ok(lists)
+}
+
+/// So many sites that have these rows, and nothing else.
+fn fresh_sites(alloc: Global, count: u8, rows: &Rows) -> Result<Vec<SiteState>, NoMemory>
+    ensures { IfOk result (λ sites. AreFresh count rows.now sites.items) }
+{
+    let mut sites = Vec::new(alloc);
+    for _ in 0..count {
+        sites.push(SiteState {
+            cut: Cut::empty(),
+            rows: rows.copied(alloc)?,
+        })?;
+    }
+    Ok(sites)
+}
+
 impl World {
     ghost use Rattle.sv_core.specs.Document.{document_of};
     ghost use Rattle.sv_core.specs.Sound.{Sound};
@@ -52,6 +76,24 @@ impl World {
     ghost use Rattle.sv_core.specs.WorldState.{IsReply, Publishes};
     ghost use Rattle.sv_core.specs.Rows.{entry_of};
     ghost use Rattle.sv_core.specs.World.{answer_due, delivered, after_delivery};
+
+    /// The world of a sound document, to which nothing has happened. Takes all the space that deliveries will need.
+    pub fn start(alloc: Global, doc: Arc<Doc>) -> Result<World, NoMemory>
+        requires { Sound (document_of doc.value) }
+        ensures { IfOk result (λ world. world ≡ record { doc = document_of doc.value; history = [] }) }
+    {
+        let rows = Rows::start(alloc, doc.init.items())?;
+        let history = Vec::with_capacity(alloc, 9 * doc.asks as usize)?;
+        let published = empty_lists(alloc, doc.sites)?;
+        let sites = fresh_sites(alloc, doc.sites, &rows)?;
+        Ok(World {
+            doc,
+            history,
+            published,
+            sites,
+            answered: [0; 64],
+        })
+    }
 
     /// All requests that were answered and all packets that were applied, in order.
     pub fn history(&self) -> &[Entry]
@@ -142,7 +184,11 @@ impl World {
         let ops = list_of(&self.published, packet);
         let place = number(packet);
         if place < ops.len() {
-            judge(&self.sites[site.number() as usize - 1].cut, packet, &ops[place])
+            judge(
+                &self.sites[site.number() as usize - 1].cut,
+                packet,
+                &ops[place],
+            )
         } else {
             Delivered::Unknown {
                 published: ops.len() as u32,
@@ -156,7 +202,10 @@ impl World {
         ensures { self.new ≡ record self.old { history = Entry.Apply site packet.now ∷ self.old.history } }
     {
         let place = site.number() as usize - 1;
-        match self.history.push(Entry::Apply { site, packet: *packet }) {
+        match self.history.push(Entry::Apply {
+            site,
+            packet: *packet,
+        }) {
             Ok(()) => {
                 let op = &list_of(&self.published, packet)[number(packet)];
                 self.sites[place].bring(packet, op.effects.items());
@@ -196,7 +245,14 @@ impl World {
     }
 
     /// The next answer of the session, at this site.
-    fn answer(&self, session: u16, site: Site, request: Request, outcome: Outcome, packet: Option<Packet>) -> Entry
+    fn answer(
+        &self,
+        session: u16,
+        site: Site,
+        request: Request,
+        outcome: Outcome,
+        packet: Option<Packet>,
+    ) -> Entry
         requires from { 1 ≤ session }
         requires to { session ≤ 64 }
         ensures { result ≡ Entry.Answer session (answered self.now.history session) request site (length self.now.history) (Reply.Ran outcome) packet }
