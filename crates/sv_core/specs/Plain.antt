@@ -1,6 +1,8 @@
 -- What the plain program has at hand: the lists of the sites' blue operations as a medium, and all changes of held operations in one list.
-use Rattle.std.specs.Prelude.{◌≡◌, ℕ, zero, suc, ◌<◌, ◌≤◌, ◌+ℤ◌, if◌then◌else◌, List, [], ◌++◌, length, get_or, Option, Some, None}
+use Rattle.std.specs.Prelude.{◌≡◌, ℕ, zero, suc, ℤ, ◌<◌, ◌≤◌, ◌+ℤ◌, if◌then◌else◌, List, [], ◌∷◌, ◌++◌, length, get_or, Option, Some, None}
 use Rattle.std.specs.List.{flat_map}
+use Rattle.sv_value.specs.declared.values.Val.{Val}
+use Rattle.sv_value.specs.declared.values.Val.TheVariants.{Int}
 use Rattle.sv_value.specs.declared.packets.Packet.{Packet}
 use Rattle.sv_app.specs.declared.places.Place.{Place}
 use Rattle.sv_app.specs.declared.requests.InitRow.{InitRow}
@@ -17,6 +19,11 @@ use Rattle.sv_core.specs.Cut.{Cut, Medium}
 use Rattle.sv_core.specs.Run.{run_of}
 use Rattle.sv_core.specs.History.{History, brings, published, tables_at, answers, answered}
 use Rattle.sv_core.specs.Legal.{home, FitsDoc, IsPacket, Legal}
+
+-- the two integers of an initial row
+abbrev pub integers : List Val → Option (ℤ × ℤ)
+integers (Int key ∷ Int count ∷ []) = Some (key, count)
+integers _ = None
 
 -- the list of each site, site 1 first; nothing is red
 abbrev pub medium_of : List (List Op) → Medium

@@ -15,7 +15,7 @@ use sv_value::{Cut, NoMemory};
 use crate::ops::{Op, RowEffect};
 use crate::rows::{KeptRow, Rows, init_count};
 
-fn init_place(row: &InitRow) -> Place
+pub fn init_place(row: &InitRow) -> Place
     ensures { result ≡ init_place row.now }
 {
     Place {
