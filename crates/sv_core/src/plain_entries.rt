@@ -26,7 +26,7 @@ pub struct Before<'a> {
 }
 
 /// A call of a transaction of the document with two integers of 64 bits.
-fn fits(doc: &Doc, request: &Request) -> bool
+pub fn fits(doc: &Doc, request: &Request) -> bool
     ensures { IsTrue result ↔ FitsDoc (document_of doc.now) request.now }
 {
     let args = request.args.items();
