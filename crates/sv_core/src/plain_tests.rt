@@ -176,6 +176,34 @@ fn is_count(rows: &[KeptRow], number: i64, count: i128) -> bool {
         .any(|row| row.place.key == key(number) && row.count == count)
 }
 
+/// Sees that at each of these sites the row of the key has the count.
+fn see_counts(rt: &impl Abort, doc: &Doc, world: &World, counts: &[(u8, i64, i128)]) -> Result<(), Fail>
+    requires { world.now.doc ≡ document_of doc.now }
+{
+    for (number, row, count) in counts {
+        let site = Site::new(*number).ok_or("no site")?;
+        assert!(rt; site.number() <= doc.sites);
+        assert!(rt; is_count(world.rows(site), *row, *count), "row {row} at site {number}");
+    }
+    Ok(())
+}
+
+/// Compares the world with the plain program.
+fn compare(rt: &impl Abort, alloc: Global, doc: &Doc, world: &World) -> Result<(), Fail>
+    requires some { 1 ≤ doc.now.sites }
+    requires few { doc.now.sites ≤ 8 }
+    requires same { world.now.doc ≡ document_of doc.now }
+{
+    let history = world.history();
+    assert!(rt; is_legal(alloc, doc, history)?, "after {history:?}");
+    for number in 1..=doc.sites {
+        let site = Site::new(number).ok_or("no site")?;
+        let tables = tables_of_site(alloc, doc, history, site)?.ok_or("not legal")?;
+        assert!(rt; are_rows(world.rows(site), tables.kept()), "site {number} after {history:?}");
+    }
+    Ok(())
+}
+
 /// Takes the steps, and compares the world with the plain program.
 fn take_all(rt: &impl Abort, alloc: Global, doc: &Doc, world: &mut World, steps: &[Step]) -> Result<(), Fail>
     requires { world.old.doc ≡ document_of doc.now }
@@ -184,13 +212,8 @@ fn take_all(rt: &impl Abort, alloc: Global, doc: &Doc, world: &mut World, steps:
     for step in steps {
         step.take(rt, alloc, doc, world)?;
     }
-    assert!(rt; is_legal(alloc, doc, world.history())?, "after {steps:?}");
-    for number in 1..=doc.sites {
-        let site = Site::new(number).ok_or("no site")?;
-        let tables = tables_of_site(alloc, doc, world.history(), site)?.ok_or("not legal")?;
-        assert!(rt; are_rows(world.rows(site), tables.kept()), "site {number} after {steps:?}");
-    }
-    Ok(())
+    assert!(rt; 1 <= doc.sites && doc.sites <= 8);
+    compare(rt, alloc, doc, world)
 }
 
 /// The world of the document after the steps.
@@ -271,11 +294,7 @@ fn sites_have_the_tables_of_their_cuts(rt: HostRuntime) -> Result<(), Fail> {
     ] {
         let doc = Arc::new(alloc, document(alloc, 2, rows)?)?;
         let world = world_after(&rt, alloc, &doc, steps)?;
-        for (number, row, count) in ends {
-            let site = Site::new(*number).ok_or("no site")?;
-            assert!(rt; site.number() <= doc.sites);
-            assert!(rt; is_count(world.rows(site), *row, *count), "row {row} at {number} after {steps:?}");
-        }
+        see_counts(&rt, &doc, &world, ends)?;
     }
     Ok(())
 }
@@ -310,9 +329,7 @@ fn deliveries_come_in_every_order(rt: HostRuntime) -> Result<(), Fail> {
             Step::Deliver(3, third.0, third.1),
         ];
         take_all(&rt, alloc, &doc, &mut world, &steps)?;
-        let site = Site::new(3).ok_or("no site")?;
-        assert!(rt; site.number() <= doc.sites);
-        assert!(rt; is_count(world.rows(site), 1, count), "after {steps:?}");
+        see_counts(&rt, &doc, &world, &[(3, 1, count)])?;
     }
     Ok(())
 }
