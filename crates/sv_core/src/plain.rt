@@ -4,15 +4,13 @@ ghost use Rattle.sv_core.specs.History.{with_news, tables_at};
 ghost use Rattle.sv_core.specs.Legal.{IsNext, Legal};
 ghost use Rattle.sv_core.specs.Plain.{medium_of, named_by_site, Told};
 
-use std::alloc::Global;
-
-use sv_value::{NoMemory, Site};
-
 use crate::docs::Doc;
 use crate::entries::Entry;
 use crate::ops::Op;
 use crate::plain_entries::Before;
 use crate::rows::Rows;
+use std::alloc::Global;
+use sv_value::{NoMemory, Site};
 
 /// The lists of eight sites that published nothing.
 fn empty_lists(alloc: Global) -> Result<Vec<Vec<Op>>, NoMemory>
@@ -37,7 +35,13 @@ fn publish(published: &mut Vec<Vec<Op>>, op: Op) -> Result<(), NoMemory>
 }
 
 /// Whether the entry may come next; what it publishes is then in its list.
-fn step(alloc: Global, doc: &Doc, history: &[Entry], entry: &Entry, published: &mut Vec<Vec<Op>>) -> Result<bool, NoMemory>
+fn step(
+    alloc: Global,
+    doc: &Doc,
+    history: &[Entry],
+    entry: &Entry,
+    published: &mut Vec<Vec<Op>>,
+) -> Result<bool, NoMemory>
     requires told { Told (document_of doc.now) (reverse history.now) (map (λ ops. ops.items) published.old.items) }
     requires eight { length published.old.items ≡ 8 }
     ensures eight { length published.new.items ≡ 8 }
@@ -91,7 +95,12 @@ pub fn is_legal(alloc: Global, doc: &Doc, history: &[Entry]) -> Result<bool, NoM
 
 /// The site's tables after the history, oldest entry first, computed from all operations of its cut; `None` where the
 /// history isn't legal.
-pub fn tables_of_site(alloc: Global, doc: &Doc, history: &[Entry], site: Site) -> Result<Option<Rows>, NoMemory>
+pub fn tables_of_site(
+    alloc: Global,
+    doc: &Doc,
+    history: &[Entry],
+    site: Site,
+) -> Result<Option<Rows>, NoMemory>
     requires some { 1 ≤ doc.now.sites }
     requires few { doc.now.sites ≤ 8 }
     ensures legal { IfOk result (λ rows. IsSome rows ↔ Legal (document_of doc.now) (reverse history.now)) }

@@ -3,10 +3,9 @@ ghost use Rattle.sv_value.specs.Cuts.{counts};
 ghost use Rattle.sv_core.specs.History.{cut_of, is_answer, is_answer_of, answers, answered};
 ghost use Rattle.sv_core.specs.Plain.{with_entry};
 
-use sv_value::{Cut, Site};
-
 use crate::entries::Entry;
 use crate::sites::add;
+use sv_value::{Cut, Site};
 
 fn is_answer(entry: &Entry) -> bool
     ensures { result ≡ is_answer entry.now }

@@ -5,12 +5,11 @@ ghost use Rattle.sv_core.specs.Run.{key_of};
 ghost use Rattle.sv_core.specs.Sound.{Sound, IsInitRow, AreDistinct};
 ghost use Rattle.sv_core.specs.TablesOfCut.{init_place};
 
-use sv_app::InitRow;
-use sv_value::{Key, Val};
-
 use crate::docs::Doc;
 use crate::plain_tables::init_place;
 use crate::runs::fits64;
+use sv_app::InitRow;
+use sv_value::{Key, Val};
 
 /// The values of a row that are a key and a counter.
 fn integers(values: &[Val]) -> Option<(i64, i64)>
@@ -26,10 +25,11 @@ fn integers(values: &[Val]) -> Option<(i64, i64)>
 fn has_key(row: &InitRow, number: &i64) -> bool
     ensures { IsTrue result ↔ (row.now.key ≡ key_of number.now) }
 {
-    row.key == Key {
-        first: Val::Int(*number),
-        second: None,
-    }
+    row.key
+        == Key {
+            first: Val::Int(*number),
+            second: None,
+        }
 }
 
 /// Whether the row is one of the one table.

@@ -3,11 +3,6 @@ ghost use Rattle.sv_core.specs.Document.{document_of};
 ghost use Rattle.sv_core.specs.Legal.{FitsDoc};
 ghost use Rattle.sv_value.specs.Cuts.{counts};
 
-use std::alloc::Global;
-
-use sv_app::Request;
-use sv_value::{Cut, NoMemory, Packet, Site};
-
 use crate::docs::Doc;
 use crate::entries::{Entry, Reply};
 use crate::ops::{Op, RowEffect};
@@ -16,6 +11,9 @@ use crate::plain_tables::tables_of_cut;
 use crate::readiness::{blue_list, list_of, number};
 use crate::rows::Rows;
 use crate::runs::{Ran, first_arg, fits64, run, second_arg};
+use std::alloc::Global;
+use sv_app::Request;
+use sv_value::{Cut, NoMemory, Packet, Site};
 
 /// A legal history, oldest entry first, and the lists of the sites' operations that it published, site 1 first.
 #[derive(Clone, Copy)]
@@ -37,7 +35,6 @@ pub fn fits(doc: &Doc, request: &Request) -> bool
 }
 
 impl Before<'_> {
-
     ghost use Rattle.sv_core.specs.Run.{run_of};
     ghost use Rattle.sv_core.specs.History.{cut_of, op_of, news, published, tables_at};
     ghost use Rattle.sv_core.specs.Legal.{home, IsPacket, IsApply, IsNext};
@@ -56,7 +53,12 @@ impl Before<'_> {
         requires { Told (document_of self.now.doc.now) (reverse self.now.history.now) (map (λ ops. ops.items) self.now.published.now) }
         ensures { IfOk result (λ rows. rows ≡ tables_at (document_of self.now.doc.now) (reverse self.now.history.now) site) }
     {
-        tables_of_cut(alloc, self.doc.init.items(), self.published, &self.cut(site))
+        tables_of_cut(
+            alloc,
+            self.doc.init.items(),
+            self.published,
+            &self.cut(site),
+        )
     }
 
     /// The run of a request on the site's tables.

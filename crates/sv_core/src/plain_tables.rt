@@ -7,13 +7,11 @@ ghost use Rattle.sv_core.specs.Rows.{row_of};
 ghost use Rattle.sv_core.specs.TablesOfCut.{is_place, init_place, initial, gained, tables_by, tables_of};
 ghost use Rattle.sv_core.specs.Within.{Within};
 
-use std::alloc::Global;
-
-use sv_app::{InitRow, Place};
-use sv_value::{Cut, NoMemory};
-
 use crate::ops::{Op, RowEffect};
 use crate::rows::{KeptRow, Rows, init_count};
+use std::alloc::Global;
+use sv_app::{InitRow, Place};
+use sv_value::{Cut, NoMemory};
 
 pub fn init_place(row: &InitRow) -> Place
     ensures { result ≡ init_place row.now }
@@ -120,15 +118,21 @@ fn changes_held(alloc: Global, published: &[Vec<Op>], cut: &Cut) -> Result<Vec<R
 fn places(alloc: Global, init: &[InitRow], changes: &[RowEffect]) -> Result<Vec<Place>, NoMemory>
     ensures { IfOk result (λ places. places.items ≡ map init_place init.now ++ map place_of changes.now) }
 {
-    Ok(init
-        .iter()
-        .map(init_place)
-        .chain(changes.iter().map(place_of))
-        .collect(alloc)?)
+    Ok(
+        init.iter()
+            .map(init_place)
+            .chain(changes.iter().map(place_of))
+            .collect(alloc)?,
+    )
 }
 
 /// A row for each of the places.
-fn rows_at(alloc: Global, places: &[Place], init: &[InitRow], changes: &[RowEffect]) -> Result<Rows, NoMemory>
+fn rows_at(
+    alloc: Global,
+    places: &[Place],
+    init: &[InitRow],
+    changes: &[RowEffect],
+) -> Result<Rows, NoMemory>
     ensures { IfOk result (λ rows. rows ≡ tables_by places.now (row_by init.now changes.now)) }
 {
     let mut rows = Rows::new(alloc);
@@ -140,7 +144,12 @@ fn rows_at(alloc: Global, places: &[Place], init: &[InitRow], changes: &[RowEffe
 
 /// The tables of a cut of these lists of the sites' operations, site 1 first: a row for each place of an initial row or
 /// of a held change, with its initial value and the sum of all held deltas.
-pub fn tables_of_cut(alloc: Global, init: &[InitRow], published: &[Vec<Op>], cut: &Cut) -> Result<Rows, NoMemory>
+pub fn tables_of_cut(
+    alloc: Global,
+    init: &[InitRow],
+    published: &[Vec<Op>],
+    cut: &Cut,
+) -> Result<Rows, NoMemory>
     ensures { IfOk result (λ rows. rows ≡ tables_of init.now (medium_of (map (λ ops. ops.items) published.now)) (counts cut.now)) }
 {
     let changes = changes_held(alloc, published, cut)?;

@@ -3,14 +3,6 @@
 ghost use Rattle.std.specs.Prelude.{◌≡◌, ◌≤◌, IfOk, OnOk};
 ghost use Rattle.sv_core.specs.Document.{document_of};
 
-use std::alloc::Global;
-use std::process::Abort;
-use std::sync::Arc;
-use std::test::Fail;
-
-use sv_app::{App, Arg, Ident, InitRow, Request, Table, Txn};
-use sv_value::{Key, List, Name, Packet, Site, Spot, Val};
-
 use crate::docs::Doc;
 use crate::entries::{Delivered, Entry, Outcome, Reply};
 use crate::plain::{is_legal, tables_of_site};
@@ -19,6 +11,12 @@ use crate::plain_docs::is_sound;
 use crate::plain_entries::fits;
 use crate::rows::KeptRow;
 use crate::world::World;
+use std::alloc::Global;
+use std::process::Abort;
+use std::sync::Arc;
+use std::test::Fail;
+use sv_app::{App, Arg, Ident, InitRow, Request, Table, Txn};
+use sv_value::{Key, List, Name, Packet, Site, Spot, Val};
 
 const HERE: Spot = Spot { line: 1, col: 1 };
 
@@ -130,7 +128,10 @@ impl Step {
                 assert!(rt; 1 <= *session && *session <= 64 && fits(doc, &request));
                 assert!(rt; answers(world.history()) < doc.asks as usize);
                 let at = world.ask(alloc, *session, request)?;
-                assert!(rt; is_answered(world.history(), at, outcome, named), "at {self:?}");
+                assert!(rt;
+                    is_answered(world.history(), at, outcome, named),
+                    "at {self:?}"
+                );
                 Ok(())
             }
             Step::Deliver(target, (origin, seq), answer) => {
@@ -147,9 +148,14 @@ impl Step {
 /// Whether the entry at the place is an answer with this outcome and packet.
 fn is_answered(history: &[Entry], place: u32, wanted: &Outcome, named: &Option<(u8, u32)>) -> bool {
     match history.get(place as usize) {
-        Some(Entry::Answer {
-            at, reply, packet, ..
-        }) => *at == place && *reply == Reply::Ran(*wanted) && named_packet(packet) == *named,
+        Some(
+            Entry::Answer {
+                at,
+                reply,
+                packet,
+                ..
+            },
+        ) => *at == place && *reply == Reply::Ran(*wanted) && named_packet(packet) == *named,
         _ => false,
     }
 }
@@ -164,10 +170,8 @@ fn named_packet(packet: &Option<Packet>) -> Option<(u8, u32)> {
 
 fn are_rows(rows: &[KeptRow], wanted: &[KeptRow]) -> bool {
     rows.len() == wanted.len()
-        && rows
-            .iter()
-            .zip(wanted)
-            .all(|(row, other)| row.place == other.place && row.count == other.count)
+        && rows.iter().zip(wanted).all(|(row, other)| row.place == other.place
+            && row.count == other.count)
 }
 
 /// Whether the row of this key has the count.
@@ -177,13 +181,21 @@ fn is_count(rows: &[KeptRow], number: i64, count: i128) -> bool {
 }
 
 /// Sees that at each of these sites the row of the key has the count.
-fn see_counts(rt: &impl Abort, doc: &Doc, world: &World, counts: &[(u8, i64, i128)]) -> Result<(), Fail>
+fn see_counts(
+    rt: &impl Abort,
+    doc: &Doc,
+    world: &World,
+    counts: &[(u8, i64, i128)],
+) -> Result<(), Fail>
     requires { world.now.doc ≡ document_of doc.now }
 {
     for (number, row, count) in counts {
         let site = Site::new(*number).ok_or("no site")?;
         assert!(rt; site.number() <= doc.sites);
-        assert!(rt; is_count(world.rows(site), *row, *count), "row {row} at site {number}");
+        assert!(rt;
+            is_count(world.rows(site), *row, *count),
+            "row {row} at site {number}"
+        );
     }
     Ok(())
 }
@@ -199,13 +211,22 @@ fn compare(rt: &impl Abort, alloc: Global, doc: &Doc, world: &World) -> Result<(
     for number in 1..=doc.sites {
         let site = Site::new(number).ok_or("no site")?;
         let tables = tables_of_site(alloc, doc, history, site)?.ok_or("not legal")?;
-        assert!(rt; are_rows(world.rows(site), tables.kept()), "site {number} after {history:?}");
+        assert!(rt;
+            are_rows(world.rows(site), tables.kept()),
+            "site {number} after {history:?}"
+        );
     }
     Ok(())
 }
 
 /// Takes the steps, and compares the world with the plain program.
-fn take_all(rt: &impl Abort, alloc: Global, doc: &Doc, world: &mut World, steps: &[Step]) -> Result<(), Fail>
+fn take_all(
+    rt: &impl Abort,
+    alloc: Global,
+    doc: &Doc,
+    world: &mut World,
+    steps: &[Step],
+) -> Result<(), Fail>
     requires { world.old.doc ≡ document_of doc.now }
     ensures { OnOk result (world.new.doc ≡ document_of doc.now) }
 {
@@ -217,7 +238,12 @@ fn take_all(rt: &impl Abort, alloc: Global, doc: &Doc, world: &mut World, steps:
 }
 
 /// The world of the document after the steps.
-fn world_after(rt: &impl Abort, alloc: Global, doc: &Arc<Doc>, steps: &[Step]) -> Result<World, Fail>
+fn world_after(
+    rt: &impl Abort,
+    alloc: Global,
+    doc: &Arc<Doc>,
+    steps: &[Step],
+) -> Result<World, Fail>
     ensures { IfOk result (λ world. world.doc ≡ document_of doc.now.value) }
 {
     assert!(rt; is_sound(doc));
@@ -313,8 +339,14 @@ fn deliveries_come_in_every_order(rt: HostRuntime) -> Result<(), Fail> {
     let early = Said::Early(1, 0);
     let applied = Said::Applied;
     for (order, count) in [
-        ([((1, 0), applied), ((2, 0), applied), ((1, 1), applied)], 17),
-        ([((1, 0), applied), ((1, 1), applied), ((2, 0), applied)], 17),
+        (
+            [((1, 0), applied), ((2, 0), applied), ((1, 1), applied)],
+            17,
+        ),
+        (
+            [((1, 0), applied), ((1, 1), applied), ((2, 0), applied)],
+            17,
+        ),
         ([((2, 0), early), ((1, 0), applied), ((1, 1), applied)], 15),
         ([((2, 0), early), ((1, 1), early), ((1, 0), applied)], 11),
         ([((1, 1), early), ((1, 0), applied), ((2, 0), applied)], 13),
@@ -401,7 +433,12 @@ fn damaged(alloc: Global, entry: &Entry, damage: Damage) -> Result<Entry, Fail> 
 }
 
 /// A copy of the history in which the entry at the place is damaged.
-fn damaged_at(alloc: Global, history: &[Entry], place: usize, damage: Damage) -> Result<Vec<Entry>, Fail> {
+fn damaged_at(
+    alloc: Global,
+    history: &[Entry],
+    place: usize,
+    damage: Damage,
+) -> Result<Vec<Entry>, Fail> {
     let mut entries = Vec::new(alloc);
     for (at, entry) in history.iter().enumerate() {
         let damage = if at == place { damage } else { Damage::None };
@@ -444,7 +481,11 @@ fn damaged_histories_are_not_legal(rt: HostRuntime) -> Result<(), Fail> {
         (3, Damage::Session, false),
     ] {
         let entries = damaged_at(alloc, world.history(), place, damage)?;
-        assert_eq!(rt; is_legal(alloc, &doc, &entries)?, legal, "{damage:?} at {place}");
+        assert_eq!(rt;
+            is_legal(alloc, &doc, &entries)?,
+            legal,
+            "{damage:?} at {place}"
+        );
     }
     Ok(())
 }

@@ -16,6 +16,6 @@ returns c =
     let changes : c.in_ok-changes.changes.items ≡ changes_to m 9 = c.in_ok-changes.ensures in
     let named : c.in_ok-places.places.items ≡ map init_place c.args.init.now ++ map place_of c.deref.result.now = c.in_ok-places.ensures in
     let places : c.deref-2.result.now ≡ map init_place c.args.init.now ++ map place_of (changes_to m 9) =
-        c.deref-2.ensures.value ∙ named ∙ ap (λ es. map init_place c.args.init.now ++ map place_of es) (c.deref.ensures.value ∙ changes) in
+    c.deref-2.ensures.value ∙ named ∙ ap (λ es. map init_place c.args.init.now ++ map place_of es) (c.deref.ensures.value ∙ changes) in
     let all : c.deref-3.result.now ≡ changes_to m 9 = c.deref-3.ensures.value ∙ changes in
     subst (λ t. IfOk c.rows_at.result (λ rows. rows ≡ t)) ((λ i. tables_by (places i) (row_by c.args.init.now (all i))) ∙ held_is c.args.init.now m) c.rows_at.ensures

@@ -15,7 +15,7 @@ returns-else-not-is_placed c =
     let asked : IsAsked doc h a.session a.request = c.if-not-is_asked.ensures.0 refl in
     let placed : IsPlaced doc h a.session a.index a.site a.at = c.if-not-is_placed.ensures.0 refl in
     subst (λ e. IfOk c.is_judged.result (λ yes. IsTrue yes ↔ IsNext doc h e)) (sym a.is)
-        (if_same c.is_judged.result (IsJudged doc h a.request a.site a.reply a.packet) (IsAnswer doc h a.session a.index a.request a.site a.at a.reply a.packet)
-            (λ judged. answer_of_parts doc h a.session a.index a.request a.site a.at a.reply a.packet asked placed judged)
-            (λ answer. judged_of doc h a.session a.index a.request a.site a.at a.reply a.packet answer)
-            c.is_judged.ensures)
+    (if_same c.is_judged.result (IsJudged doc h a.request a.site a.reply a.packet) (IsAnswer doc h a.session a.index a.request a.site a.at a.reply a.packet)
+    (λ judged. answer_of_parts doc h a.session a.index a.request a.site a.at a.reply a.packet asked placed judged)
+    (λ answer. judged_of doc h a.session a.index a.request a.site a.at a.reply a.packet answer)
+    c.is_judged.ensures)

@@ -11,6 +11,6 @@ pub returns : goal.returns
 returns c =
     let lists = map (λ ops. ops.items) c.args.self.now.published.now in
     subst (λ t. IfOk c.tables_of_cut.result (λ rows. rows ≡ t))
-        ((λ i. tables_of (c.items.ensures i) (medium_of lists) (counts c.cut.result))
-            ∙ told_tables (document_of c.args.self.now.doc.now) (reverse c.args.self.now.history.now) lists c.args.site (counts c.cut.result) c.requires c.cut.ensures)
-        c.tables_of_cut.ensures
+    ((λ i. tables_of (c.items.ensures i) (medium_of lists) (counts c.cut.result))
+    ∙ told_tables (document_of c.args.self.now.doc.now) (reverse c.args.self.now.history.now) lists c.args.site (counts c.cut.result) c.requires c.cut.ensures)
+    c.tables_of_cut.ensures
