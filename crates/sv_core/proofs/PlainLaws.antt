@@ -1,5 +1,5 @@
 -- A history read from its oldest entry on.
-use Rattle.std.proofs.Common.{◌≡◌, ℕ, zero, suc, ◌+◌, ◌<◌, ◌≤◌, if◌then◌else◌, Bool, true, false, List, [], ◌∷◌, ◌++◌, length, take, drop, get_or, set, ◌⊎◌, inl, inr, ◌-◌, ◌==◌, Option, Some, None, refl, sym, ap, subst, ◌∙◌, arith}
+use Rattle.std.proofs.Common.{◌≡◌, ℕ, zero, suc, ◌+◌, ◌<◌, ◌≤◌, if◌then◌else◌, Bool, true, false, List, [], ◌∷◌, ◌++◌, length, take, drop, get_or, set, ◌⊎◌, inl, inr, ◌-◌, ◌==◌, Option, Some, refl, sym, ap, subst, ◌∙◌, arith}
 use Rattle.std.specs.Prelude.{reverse, count_by, cond, map, Result, Ok, Err, IfOk, IsTrue, ◌↔◌}
 use Rattle.std.proofs.lemmas.List.{take_more, take-append-drop, reverse-append, get_or-set_same, get_or-set_other, map-set, length-map, get_or-map}
 use Rattle.std.proofs.lemmas.Grind.{same_number_lists}
@@ -12,14 +12,14 @@ use Rattle.sv_app.specs.declared.requests.Request.{Request}
 use Rattle.sv_core.specs.Document.{Document}
 use Rattle.sv_core.specs.declared.ops.Op.{Op}
 use Rattle.sv_core.specs.declared.entries.Entry.{Entry}
-use Rattle.sv_core.specs.declared.entries.Entry.TheVariants.{Answer, Apply}
+use Rattle.sv_core.specs.declared.entries.Entry.TheVariants.{Answer}
 use Rattle.sv_core.specs.declared.entries.Reply.{Reply}
 use Rattle.sv_core.specs.declared.entries.Reply.TheVariants.{Ran}
 use Rattle.sv_core.specs.Run.{run_of}
 use Rattle.sv_core.specs.Legal.{Legal, IsNext, IsAnswer, IsPacket}
-use Rattle.sv_core.specs.Cut.{Cut, Medium, all_sites, as_deps}
+use Rattle.sv_core.specs.Cut.{Cut, all_sites, as_deps}
 use Rattle.sv_core.specs.TablesOfCut.{tables_of}
-use Rattle.sv_core.specs.History.{History, count_where, brings, cut_of, back_to, op_of, news, with_news, published, tables_at}
+use Rattle.sv_core.specs.History.{History, count_where, cut_of, back_to, op_of, news, with_news, published, tables_at}
 use Rattle.sv_core.specs.Plain.{medium_of, with_entry, named_by_site, Told, IsAsked, IsPlaced, IsJudged}
 use Rattle.sv_core.proofs.CutLaws.{same_test, other_test}
 use Rattle.sv_core.proofs.HistoryLaws.{cut_grows, within, back_to_now, packed}
@@ -95,15 +95,7 @@ told_fits doc h lists s told o =
 pub told_tables : (doc : Document) (h : History) (lists : List (List Op)) (s : ℕ) (cut : Cut) → Told doc h lists → ((o : ℕ) → cut o ≡ cut_of h s o) → tables_of doc.init (medium_of lists) cut ≡ tables_at doc h s
 told_tables doc h lists s cut told same = λ i. tables_of doc.init (λ o. told.lists_are o i) (λ o. same o i)
 
--- an answer that is due has its three parts, and these are all
-pub asked_of : (doc : Document) (h : History) (session index : ℕ) (request : Request) (site at : ℕ) (reply : Reply) (packet : Option Packet)
-    → IsAnswer doc h session index request site at reply packet → IsAsked doc h session request
-asked_of doc h session index request site at reply packet a = record { from = a.from; to = a.to; awaited = a.awaited; fits = a.fits }
-
-pub placed_of : (doc : Document) (h : History) (session index : ℕ) (request : Request) (site at : ℕ) (reply : Reply) (packet : Option Packet)
-    → IsAnswer doc h session index request site at reply packet → IsPlaced doc h session index site at
-placed_of doc h session index request site at reply packet a = record { next = a.next; lives = a.lives; place = a.place }
-
+-- an answer that is due has its parts, and these are all
 pub judged_of : (doc : Document) (h : History) (session index : ℕ) (request : Request) (site at : ℕ) (reply : Reply) (packet : Option Packet)
     → IsAnswer doc h session index request site at reply packet → IsJudged doc h request site reply packet
 judged_of doc h session index request site at reply packet a = record {

@@ -1,21 +1,20 @@
 -- The tables of a cut from one list of all held changes.
-use Rattle.std.proofs.Common.{◌≡◌, ℕ, zero, suc, ◌+◌, ◌<◌, ◌||◌, if◌then◌else◌, cond, Bool, true, false, List, [], ◌∷◌, ◌++◌, length, take, drop, get_or, Option, Some, None, refl, sym, ap, ◌∙◌, arith}
+use Rattle.std.proofs.Common.{◌≡◌, ℕ, zero, suc, ◌+◌, ◌<◌, ◌||◌, if◌then◌else◌, Bool, true, false, List, [], ◌∷◌, ◌++◌, length, take, drop, get_or, Some, None, refl, sym, ap, ◌∙◌, arith}
 use Rattle.std.specs.Prelude.{ℤ, pos, ◌+ℤ◌, ◌*◌, ◌^◌, map}
 use lib.Signed.{mag}
 use Rattle.std.proofs.lemmas.Int.{ints}
 use Rattle.std.proofs.lemmas.List.{take_more, drop_more}
-use Rattle.std.proofs.lemmas.Map.Views.{tells_apart}
-use Rattle.std.specs.FinMap.{get, insert, get-insert, same_map}
+use Rattle.std.specs.FinMap.{insert, same_map}
 use Rattle.sv_app.specs.declared.places.Place.{Place}
 use Rattle.sv_app.specs.declared.requests.InitRow.{InitRow}
-use Rattle.sv_app.specs.Tables.{place_cmp, Row, Tables}
+use Rattle.sv_app.specs.Tables.{Row}
 use Rattle.sv_app.proofs.PlaceLaws.{place_total, exact_places}
 use Rattle.sv_core.specs.declared.ops.RowEffect.{RowEffect}
 use Rattle.sv_core.specs.declared.ops.Op.{Op}
 use Rattle.sv_core.specs.Cut.{Cut, Medium, held}
 use Rattle.sv_core.specs.Applied.{place_of}
 use Rattle.sv_core.specs.Plain.{medium_of, changes_by, changes_to, row_by}
-use Rattle.sv_core.specs.TablesOfCut.{is_place, init_place, initial, gained, gained_by, gained_in, sum_to, named_by, named_to, tables_by, tables_held}
+use Rattle.sv_core.specs.TablesOfCut.{is_place, init_place, initial, gained, gained_by, sum_to, named_by, named_to, tables_by, tables_held}
 use Rattle.sv_core.specs.Within.{Within}
 use Rattle.sv_core.proofs.PlaceListLaws.{among, among-append}
 use Rattle.sv_core.proofs.TableLaws.{get-tables_by}

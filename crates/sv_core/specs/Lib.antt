@@ -5,6 +5,7 @@ pub mod History
 pub mod Laws
 pub mod Legal
 pub mod Plain
+pub mod PlainEntries
 pub mod Rows
 pub mod Run
 pub mod Sound

@@ -38,20 +38,21 @@ impl Before<'_> {
     ghost use Rattle.sv_core.specs.Run.{run_of};
     ghost use Rattle.sv_core.specs.History.{cut_of, op_of, news, published, tables_at};
     ghost use Rattle.sv_core.specs.Legal.{home, IsPacket, IsApply, IsNext};
-    ghost use Rattle.sv_core.specs.Plain.{named_by_site, Told, IsAsked, IsPlaced, IsJudged};
+    ghost use Rattle.sv_core.specs.Plain.{named_by_site, IsAsked, IsPlaced, IsJudged};
+    ghost use Rattle.sv_core.specs.PlainEntries.{doc_of, past_of, IsTold};
 
     /// What the site has.
     fn cut(&self, site: Site) -> Cut
-        requires { Told (document_of self.now.doc.now) (reverse self.now.history.now) (map (λ ops. ops.items) self.now.published.now) }
-        ensures { (o : ℕ) → counts result o ≡ cut_of (reverse self.now.history.now) site o }
+        requires { IsTold self.now }
+        ensures { (o : ℕ) → counts result o ≡ cut_of (past_of self.now) site o }
     {
         cut_of(self.history, site)
     }
 
     /// The site's tables.
     pub fn tables(&self, alloc: Global, site: Site) -> Result<Rows, NoMemory>
-        requires { Told (document_of self.now.doc.now) (reverse self.now.history.now) (map (λ ops. ops.items) self.now.published.now) }
-        ensures { IfOk result (λ rows. rows ≡ tables_at (document_of self.now.doc.now) (reverse self.now.history.now) site) }
+        requires { IsTold self.now }
+        ensures { IfOk result (λ rows. rows ≡ tables_at (doc_of self.now) (past_of self.now) site) }
     {
         tables_of_cut(
             alloc,
@@ -63,8 +64,8 @@ impl Before<'_> {
 
     /// The run of a request on the site's tables.
     fn ran(&self, alloc: Global, site: Site, request: &Request) -> Result<Ran, NoMemory>
-        requires { Told (document_of self.now.doc.now) (reverse self.now.history.now) (map (λ ops. ops.items) self.now.published.now) }
-        ensures { IfOk result (λ ran. ran ≡ run_of request.now (tables_at (document_of self.now.doc.now) (reverse self.now.history.now) site)) }
+        requires { IsTold self.now }
+        ensures { IfOk result (λ ran. ran ≡ run_of request.now (tables_at (doc_of self.now) (past_of self.now) site)) }
     {
         let tables = self.tables(alloc, site)?;
         run(alloc, request, &tables)
@@ -72,7 +73,7 @@ impl Before<'_> {
 
     /// Whether the session may ask the request now.
     fn is_asked(&self, session: u16, request: &Request) -> bool
-        ensures { IsTrue result ↔ IsAsked (document_of self.now.doc.now) (reverse self.now.history.now) session request.now }
+        ensures { IsTrue result ↔ IsAsked (doc_of self.now) (past_of self.now) session request.now }
     {
         1 <= session
             && session <= 64
@@ -84,7 +85,7 @@ impl Before<'_> {
     fn is_home(&self, session: u16, site: Site) -> bool
         requires sites { 1 ≤ self.now.doc.now.sites }
         requires session { 1 ≤ session }
-        ensures { IsTrue result ↔ (site ≡ home (document_of self.now.doc.now) session) }
+        ensures { IsTrue result ↔ (site ≡ home (doc_of self.now) session) }
     {
         site.number() as u16 == 1 + (session - 1) % self.doc.sites as u16
     }
@@ -93,7 +94,7 @@ impl Before<'_> {
     fn is_placed(&self, session: u16, index: u32, site: Site, at: u32) -> bool
         requires sites { 1 ≤ self.now.doc.now.sites }
         requires session { 1 ≤ session }
-        ensures { IsTrue result ↔ IsPlaced (document_of self.now.doc.now) (reverse self.now.history.now) session index site at }
+        ensures { IsTrue result ↔ IsPlaced (doc_of self.now) (past_of self.now) session index site at }
     {
         index as usize == answered(self.history, session)
             && self.is_home(session, site)
@@ -102,8 +103,8 @@ impl Before<'_> {
 
     /// Whether the packet is the one of an answer that makes these changes.
     fn is_named(&self, site: Site, effects: &[RowEffect], packet: &Option<Packet>) -> bool
-        requires { Told (document_of self.now.doc.now) (reverse self.now.history.now) (map (λ ops. ops.items) self.now.published.now) }
-        ensures { IsTrue result ↔ IsPacket (document_of self.now.doc.now) (reverse self.now.history.now) site (length self.now.history.now) effects.now packet.now }
+        requires { IsTold self.now }
+        ensures { IsTrue result ↔ IsPacket (doc_of self.now) (past_of self.now) site (length self.now.history.now) effects.now packet.now }
     {
         match packet {
             None => effects.is_empty(),
@@ -125,8 +126,8 @@ impl Before<'_> {
         reply: &Reply,
         packet: &Option<Packet>,
     ) -> Result<bool, NoMemory>
-        requires { Told (document_of self.now.doc.now) (reverse self.now.history.now) (map (λ ops. ops.items) self.now.published.now) }
-        ensures { IfOk result (λ yes. IsTrue yes ↔ IsJudged (document_of self.now.doc.now) (reverse self.now.history.now) request.now site reply.now packet.now) }
+        requires { IsTold self.now }
+        ensures { IfOk result (λ yes. IsTrue yes ↔ IsJudged (doc_of self.now) (past_of self.now) request.now site reply.now packet.now) }
     {
         let ran = self.ran(alloc, site, request)?;
         Ok(*reply == Reply::Ran(ran.outcome) && self.is_named(site, ran.effects.items(), packet))
@@ -134,8 +135,8 @@ impl Before<'_> {
 
     /// Whether the packet is published, the site lacks it, and has all that it was made on.
     fn is_apply(&self, site: Site, packet: &Packet) -> bool
-        requires { Told (document_of self.now.doc.now) (reverse self.now.history.now) (map (λ ops. ops.items) self.now.published.now) }
-        ensures { IsTrue result ↔ IsApply (document_of self.now.doc.now) (reverse self.now.history.now) site packet.now }
+        requires { IsTold self.now }
+        ensures { IsTrue result ↔ IsApply (doc_of self.now) (past_of self.now) site packet.now }
     {
         let ops = list_of(self.published, packet);
         let place = number(packet);
@@ -148,8 +149,8 @@ impl Before<'_> {
 
     /// Whether the entry may come next.
     pub fn is_next(&self, alloc: Global, entry: &Entry) -> Result<bool, NoMemory>
-        requires { Told (document_of self.now.doc.now) (reverse self.now.history.now) (map (λ ops. ops.items) self.now.published.now) }
-        ensures { IfOk result (λ yes. IsTrue yes ↔ IsNext (document_of self.now.doc.now) (reverse self.now.history.now) entry.now) }
+        requires { IsTold self.now }
+        ensures { IfOk result (λ yes. IsTrue yes ↔ IsNext (doc_of self.now) (past_of self.now) entry.now) }
     {
         match entry {
             Entry::Answer {
@@ -175,8 +176,8 @@ impl Before<'_> {
 
     /// The operation that a request makes at the site.
     fn op(&self, alloc: Global, site: Site, request: &Request) -> Result<Op, NoMemory>
-        requires { Told (document_of self.now.doc.now) (reverse self.now.history.now) (map (λ ops. ops.items) self.now.published.now) }
-        ensures { IfOk result (λ op. op ≡ op_of (document_of self.now.doc.now) (published (document_of self.now.doc.now) (reverse self.now.history.now)) (reverse self.now.history.now) site (length (reverse self.now.history.now)) request.now) }
+        requires { IsTold self.now }
+        ensures { IfOk result (λ op. op ≡ op_of (doc_of self.now) (published (doc_of self.now) (past_of self.now)) (past_of self.now) site (length (past_of self.now)) request.now) }
     {
         let Ran {
             outcome: _,
@@ -191,9 +192,9 @@ impl Before<'_> {
 
     /// The operation that the next entry publishes, if it publishes one.
     pub fn news(&self, alloc: Global, entry: &Entry) -> Result<Option<Op>, NoMemory>
-        requires told { Told (document_of self.now.doc.now) (reverse self.now.history.now) (map (λ ops. ops.items) self.now.published.now) }
-        requires next { IsNext (document_of self.now.doc.now) (reverse self.now.history.now) entry.now }
-        ensures { IfOk result (λ op. named_by_site op ≡ news (document_of self.now.doc.now) (published (document_of self.now.doc.now) (reverse self.now.history.now)) (reverse self.now.history.now) entry.now) }
+        requires told { IsTold self.now }
+        requires next { IsNext (doc_of self.now) (past_of self.now) entry.now }
+        ensures { IfOk result (λ op. named_by_site op ≡ news (doc_of self.now) (published (doc_of self.now) (past_of self.now)) (past_of self.now) entry.now) }
     {
         match entry {
             Entry::Answer {

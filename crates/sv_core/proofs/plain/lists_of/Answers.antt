@@ -1,4 +1,4 @@
-use Rattle.std.proofs.Common.{◌≡◌, true, false, sym, ◌∙◌}
+use Rattle.std.proofs.Common.{sym, ◌∙◌}
 use Rattle.sv_core.specs.Document.{document_of}
 use Rattle.sv_core.proofs.PlainLaws.{next_of}
 use Rattle.sv_core.proofs.plain.lists_of.Goals as goal

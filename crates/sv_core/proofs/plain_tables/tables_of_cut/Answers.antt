@@ -1,12 +1,10 @@
-use Rattle.std.proofs.Common.{◌≡◌, ◌++◌, List, sym, ap, subst, ◌∙◌}
+use Rattle.std.proofs.Common.{◌≡◌, ◌++◌, ap, subst, ◌∙◌}
 use Rattle.std.specs.Prelude.{map, IfOk}
 use Rattle.sv_value.specs.Cuts.{counts}
-use Rattle.sv_app.specs.declared.places.Place.{Place}
-use Rattle.sv_core.specs.declared.ops.RowEffect.{RowEffect}
 use Rattle.sv_core.specs.Cut.{Medium, held}
 use Rattle.sv_core.specs.Applied.{place_of}
 use Rattle.sv_core.specs.Plain.{medium_of, changes_to, row_by}
-use Rattle.sv_core.specs.TablesOfCut.{init_place, tables_by, tables_of}
+use Rattle.sv_core.specs.TablesOfCut.{init_place, tables_by}
 use Rattle.sv_core.proofs.PlainTableLaws.{held_is}
 use Rattle.sv_core.proofs.plain_tables.tables_of_cut.Goals as goal
 

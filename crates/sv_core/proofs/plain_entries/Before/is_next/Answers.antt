@@ -1,4 +1,4 @@
-use Rattle.std.proofs.Common.{◌≡◌, sym, subst, refl}
+use Rattle.std.proofs.Common.{sym, subst, refl}
 use Rattle.std.specs.Prelude.{reverse, IfOk, IsTrue, ◌↔◌}
 use Rattle.sv_core.specs.Document.{document_of}
 use Rattle.sv_core.specs.Legal.{IsNext, IsAnswer}

@@ -1,7 +1,6 @@
 use Rattle.std.proofs.Common.{◌≡◌, Some, sym, ap, subst, ◌∙◌}
 use Rattle.std.specs.Prelude.{reverse}
 use Rattle.sv_core.specs.Document.{document_of}
-use Rattle.sv_core.specs.declared.entries.Entry.{Entry}
 use Rattle.sv_core.specs.declared.entries.Entry.TheVariants.{Answer}
 use Rattle.sv_core.specs.History.{History, news, published}
 use Rattle.sv_core.specs.Legal.{IsNext}

@@ -1,4 +1,4 @@
-use Rattle.std.proofs.Common.{◌≡◌, length, rules, refl, sym, ap, ◌∙◌}
+use Rattle.std.proofs.Common.{◌≡◌, length, rules, refl, ap}
 use Rattle.std.specs.Prelude.{reverse}
 use Rattle.sv_core.specs.Document.{document_of}
 use Rattle.sv_core.proofs.PlainLaws.{op_is}
