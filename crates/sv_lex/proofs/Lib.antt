@@ -1,0 +1,12 @@
+pub mod BlankLaws
+pub mod FrontLaws
+pub mod GapLaws
+pub mod LexLaws
+pub mod MarkLaws
+pub mod NumberLaws
+pub mod PieceLaws
+pub mod RunLaws
+pub mod SpotLaws
+pub mod StandingLaws
+pub mod WrittenLaws
+pub mod WrongLaws

@@ -1,0 +1,5 @@
+pub mod Lexers
+pub mod Marks
+pub mod Spots
+pub mod Standing
+pub mod Tokens
