@@ -1,0 +1,36 @@
+-- What a document of the first form says: the name of its table, the names of its transactions, its initial rows, how many sites it has, and its steps.
+use Rattle.std.specs.Prelude.{ℕ, zero, suc, List, [], ◌∷◌, length}
+use Rattle.sv_app.specs.declared.requests.InitRow.{InitRow}
+use Rattle.sv_core.specs.Document.{Document}
+use Rattle.sv_tool.specs.declared.steps.Step.{Step}
+use Rattle.sv_tool.specs.declared.steps.Step.TheVariants.{Ask, Deliver, Show}
+
+pub record Form : Type 0 where
+  pub table : List ℕ
+  pub txns : List (List ℕ)
+  pub init : List InitRow
+  pub sites : ℕ
+  pub steps : List Step
+
+-- how many steps ask for a transaction
+abbrev pub asks_in : List Step → ℕ
+asks_in [] = zero
+asks_in (Ask session request ∷ steps) = suc (asks_in steps)
+asks_in (Deliver site packet ∷ steps) = asks_in steps
+asks_in (Show site table ∷ steps) = asks_in steps
+
+-- how many steps show a table
+abbrev pub shows_in : List Step → ℕ
+shows_in [] = zero
+shows_in (Ask session request ∷ steps) = shows_in steps
+shows_in (Deliver site packet ∷ steps) = shows_in steps
+shows_in (Show site table ∷ steps) = suc (shows_in steps)
+
+abbrev pub document_of_form : Form → Document
+document_of_form form = record {
+  tables = 1;
+  txns = length form.txns;
+  init = form.init;
+  sites = form.sites;
+  asks = asks_in form.steps;
+}
