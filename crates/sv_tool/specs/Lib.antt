@@ -1,2 +1,7 @@
+pub mod Answer
 pub mod Form
 pub mod Grammar
+pub mod Lines
+pub mod Reading
+pub mod ReplayText
+pub mod Statuses
