@@ -3,5 +3,8 @@
 
 mod statuses;
 mod steps;
+mod texts;
+mod words;
 
 pub use steps::{Replay, Step};
+pub use words::Words;
