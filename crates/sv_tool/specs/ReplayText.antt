@@ -13,9 +13,13 @@ use Rattle.sv_tool.specs.declared.steps.Step.TheVariants.{Ask, Deliver, Show}
 use Rattle.sv_tool.specs.Form.{Form, document_of_form}
 use Rattle.sv_tool.specs.Lines.{entry_line, delivered_line, show_lines}
 
--- the rows of the table of this number
+-- of these rows, those of the table of this number
+abbrev pub of_table : ℕ → List (Place × Row) → List (Place × Row)
+of_table table rows = filter (λ entry. entry.0.table == table) rows
+
+-- the rows that are kept in the table of this number
 abbrev pub rows_of : ℕ → Tables → List (Place × Row)
-rows_of table t = filter (λ entry. entry.0.table == table) (entries t)
+rows_of table t = of_table table (entries t)
 
 -- what the rows of a table are: their keys rise, and they are exactly the rows that are kept there
 pub record AreRowsOf (table : ℕ) (t : Tables) (rows : List (Place × Row)) : Type 0 where

@@ -1,6 +1,7 @@
 //! Reads documents and writes what comes of them.
 #![tactic(auto)]
 
+mod shows;
 mod statuses;
 mod steps;
 mod texts;

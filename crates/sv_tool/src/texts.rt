@@ -148,7 +148,7 @@ fn put_key(out: &mut Vec<u8>, key: &Key) -> Result<(), NoMemory>
 
 /// Appends the line of a row.
 #[tactic(auto, using(crate::proofs::AppendLaws::appends))]
-fn put_row(out: &mut Vec<u8>, row: &KeptRow) -> Result<(), NoMemory>
+pub fn put_row(out: &mut Vec<u8>, row: &KeptRow) -> Result<(), NoMemory>
     ensures { OnOk result (out.new.items ≡ out.old.items ++ row_line (entry_of row.now)) }
 {
     put_bytes(out, b"row")?;
