@@ -1,3 +1,4 @@
 pub mod AppendLaws
+pub mod RowsOfLaws
 pub mod ShowLaws
 pub mod WordLaws

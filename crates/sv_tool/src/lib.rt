@@ -1,11 +1,13 @@
 //! Reads documents and writes what comes of them.
 #![tactic(auto)]
 
+mod laws;
 mod shows;
 mod statuses;
 mod steps;
 mod texts;
 mod words;
 
+pub use laws::rows_are_listed;
 pub use steps::{Replay, Step};
 pub use words::Words;
