@@ -60,6 +60,7 @@ run_one doc h site at request (Some row) packet named = split (fits64 row.count 
 pub record Birth (doc : Document) (o q : ℕ) (op : Op) : Type 0 where
   pub site_is : op.site ≡ o
   pub deps_own : counts op.deps o ≡ q
+  pub deps_long : length op.deps.blue ≡ 8
   pub effect : RowEffect
   pub only : op.effects ≡ effect ∷ []
   pub known : among (place_of effect) (init_places doc) ≡ true
@@ -95,7 +96,7 @@ named_to_known doc m (suc n) known p named =
     from (inl before) ih = ih before
     from (inr here) ih = named_known doc (m n) (known n) p here
 
-get_from_take : (k : ℕ) (ops : List Op) (q : ℕ) (op : Op) → slice_get (take k ops) q ≡ Some op → slice_get ops q ≡ Some op
+pub get_from_take : (k : ℕ) (ops : List Op) (q : ℕ) (op : Op) → slice_get (take k ops) q ≡ Some op → slice_get ops q ≡ Some op
 get_from_take zero ops q op e = absurd cc
 get_from_take (suc k) [] q op e = absurd cc
 get_from_take (suc k) (x ∷ ops) zero op e = e
@@ -128,6 +129,7 @@ born doc h session index request site at reply packet some eight legal known a =
   site_is = sym next.origin_is;
   deps_own = (λ i. counts (as_deps (cut_of (now i) site)) (origin packet)) ∙ (λ i. counts_cut doc h some eight legal site i (origin packet)) ∙ (λ i. cut_of h site (next.origin_is i)) ∙ own doc h legal site
       ∙ (λ i. length (published doc h (sym next.origin_is i)));
+  deps_long = refl;
   effect = change_asked request;
   only = ap (λ t. (run_of request t).effects) (sym tables) ∙ one.only;
   known = row_known doc (published doc h) (cut_of h site) known (place_asked request) one.row (ap (λ t. get t (place_asked request)) here ∙ one.stands);

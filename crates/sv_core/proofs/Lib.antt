@@ -3,10 +3,14 @@ pub mod CutLaws
 pub mod HistoryLaws
 pub mod InitLaws
 pub mod ListLaws
+pub mod ListedLaws
 pub mod MediumLaws
 pub mod MissingLaws
 pub mod PlaceListLaws
 pub mod RoomLaws
 pub mod RowLaws
+pub mod StepLaws
 pub mod SumLaws
 pub mod TableLaws
+pub mod TakeLaws
+pub mod WorldLaws

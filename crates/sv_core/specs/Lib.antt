@@ -9,3 +9,4 @@ pub mod Sound
 pub mod TablesOfCut
 pub mod Within
 pub mod World
+pub mod WorldState

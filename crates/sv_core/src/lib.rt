@@ -8,9 +8,11 @@ mod readiness;
 mod rows;
 mod runs;
 mod sites;
+mod world;
 
 pub use docs::Doc;
 pub use entries::{Delivered, Entry, Outcome, Reply};
 pub use ops::{Op, RowEffect};
 pub use rows::{KeptRow, Rows};
 pub use runs::Ran;
+pub use world::World;

@@ -72,90 +72,86 @@ fn marks_are_read(rt: HostRuntime) -> Result<(), Fail> {
 }
 
 #[test]
-fn tokens_are_read(rt: HostRuntime) -> Result<(), Fail> {
+fn longest_marks_are_read(rt: HostRuntime) -> Result<(), Fail> {
+    for (bytes, first, second) in [
+        (
+            b"<==".as_slice(),
+            sign(Mark::Le, 0, 2, 1),
+            sign(Mark::Eq, 2, 3, 3),
+        ),
+        (
+            b"< =".as_slice(),
+            sign(Mark::Lt, 0, 1, 1),
+            sign(Mark::Eq, 2, 3, 3),
+        ),
+        (
+            b"!==".as_slice(),
+            sign(Mark::Ne, 0, 2, 1),
+            sign(Mark::Eq, 2, 3, 3),
+        ),
+        (
+            b"=>=".as_slice(),
+            sign(Mark::Eq, 0, 1, 1),
+            sign(Mark::Ge, 1, 3, 2),
+        ),
+        (
+            b"%%%%".as_slice(),
+            sign(Mark::Percents, 0, 2, 1),
+            sign(Mark::Percents, 2, 4, 3),
+        ),
+    ] {
+        reads(&rt, rt.alloc(), bytes, &[first, second])?;
+    }
+    Ok(())
+}
+
+#[test]
+fn single_tokens_are_read(rt: HostRuntime) -> Result<(), Fail> {
     let long = b"abcdefghijklmnopqrstuvwxyz_45678".as_slice();
-    let most = b"'0123456789 123456789 123456789 123456789'".as_slice();
-    let greatest = TokenKind::Number(9223372036854775807);
-    reads(&rt, rt.alloc(), b"", &[])?;
-    reads(&rt, rt.alloc(), b" \t\r\n# all of it", &[])?;
+    let most = b"0123456789 123456789 123456789 123456789".as_slice();
+    let closed = b"'0123456789 123456789 123456789 123456789'".as_slice();
+    for (bytes, wanted) in [
+        (long, token(name(&rt, long), 0, 32, 1, 1)),
+        (
+            b"9223372036854775807".as_slice(),
+            token(TokenKind::Number(9223372036854775807), 0, 19, 1, 1),
+        ),
+        (b"007".as_slice(), token(TokenKind::Number(7), 0, 3, 1, 1)),
+        (b"''".as_slice(), token(text(&rt, b""), 0, 2, 1, 1)),
+        (
+            b"'a # b'".as_slice(),
+            token(text(&rt, b"a # b"), 0, 7, 1, 1),
+        ),
+        (closed, token(text(&rt, most), 0, 42, 1, 1)),
+        (b"\ta".as_slice(), token(name(&rt, b"a"), 1, 2, 1, 2)),
+        (
+            b"\n\r\n  B#c".as_slice(),
+            token(name(&rt, b"B"), 5, 6, 3, 3),
+        ),
+    ] {
+        reads(&rt, rt.alloc(), bytes, &[wanted])?;
+    }
+    Ok(())
+}
+
+#[test]
+fn gaps_are_passed(rt: HostRuntime) -> Result<(), Fail> {
+    let alloc = rt.alloc();
+    reads(&rt, alloc, b"", &[])?;
+    reads(&rt, alloc, b" \t\r\n# all of it", &[])?;
+    let number = token(TokenKind::Number(1), 0, 1, 1, 1);
     reads(
         &rt,
-        rt.alloc(),
-        b"<==",
-        &[sign(Mark::Le, 0, 2, 1), sign(Mark::Eq, 2, 3, 3)],
+        alloc,
+        b"1a",
+        &[number, token(name(&rt, b"a"), 1, 2, 1, 2)],
     )?;
+    let first = token(TokenKind::Number(1), 0, 1, 1, 1);
     reads(
         &rt,
-        rt.alloc(),
-        b"< =",
-        &[sign(Mark::Lt, 0, 1, 1), sign(Mark::Eq, 2, 3, 3)],
-    )?;
-    reads(
-        &rt,
-        rt.alloc(),
-        b"!==",
-        &[sign(Mark::Ne, 0, 2, 1), sign(Mark::Eq, 2, 3, 3)],
-    )?;
-    reads(
-        &rt,
-        rt.alloc(),
-        b"%%%%",
-        &[sign(Mark::Percents, 0, 2, 1), sign(Mark::Percents, 2, 4, 3)],
-    )?;
-    reads(
-        &rt,
-        rt.alloc(),
-        long,
-        &[token(name(&rt, long), 0, 32, 1, 1)],
-    )?;
-    reads(
-        &rt,
-        rt.alloc(),
-        b"9223372036854775807",
-        &[token(greatest, 0, 19, 1, 1)],
-    )?;
-    reads(
-        &rt,
-        rt.alloc(),
-        b"007a",
-        &[
-            token(TokenKind::Number(7), 0, 3, 1, 1),
-            token(name(&rt, b"a"), 3, 4, 1, 4),
-        ],
-    )?;
-    reads(&rt, rt.alloc(), b"''", &[token(text(&rt, b""), 0, 2, 1, 1)])?;
-    reads(
-        &rt,
-        rt.alloc(),
-        b"'a # b'",
-        &[token(text(&rt, b"a # b"), 0, 7, 1, 1)],
-    )?;
-    reads(
-        &rt,
-        rt.alloc(),
-        most,
-        &[token(text(&rt, &most[1..41]), 0, 42, 1, 1)],
-    )?;
-    reads(
-        &rt,
-        rt.alloc(),
-        b"\ta",
-        &[token(name(&rt, b"a"), 1, 2, 1, 2)],
-    )?;
-    reads(
-        &rt,
-        rt.alloc(),
-        b"\n\r\n  B#c",
-        &[token(name(&rt, b"B"), 5, 6, 3, 3)],
-    )?;
-    reads(
-        &rt,
-        rt.alloc(),
+        alloc,
         b"1 # 2\n3",
-        &[
-            token(TokenKind::Number(1), 0, 1, 1, 1),
-            token(TokenKind::Number(3), 6, 7, 2, 1),
-        ],
+        &[first, token(TokenKind::Number(3), 6, 7, 2, 1)],
     )
 }
 
