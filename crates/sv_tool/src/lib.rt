@@ -1,6 +1,9 @@
 //! Reads documents and writes what comes of them.
 #![tactic(auto)]
 
+mod reader_checks;
+mod reader_names;
+mod readers;
 mod steps;
 
 pub use steps::{Replay, Step};
