@@ -103,15 +103,21 @@ pub record IsTxn (table counter : List ℕ) (tokens : List Token) (name : List �
   pub second_free : IsFree second
   pub differ : first ≢ second
 
+-- "(" val "," val ")" ";"
+pub record IsPair (written : List TokenKind) (first second : ℤ) : Type 0 where
+  pub first_part : List TokenKind
+  pub second_part : List TokenKind
+  pub whole : written ≡ Mark LeftParen ∷ first_part ++ Mark Comma ∷ second_part ++ Mark RightParen ∷ Mark Semi ∷ []
+  pub first_is : IsVal first_part first
+  pub second_is : IsVal second_part second
+
 -- T "(" val "," val ")" ";"
 pub record IsRow (table : List ℕ) (tokens : List Token) (row : InitRow) : Type 0 where
   pub key : ℤ
   pub start : ℤ
-  pub key_part : List TokenKind
-  pub start_part : List TokenKind
-  pub written : kinds tokens ≡ Name table ∷ Mark LeftParen ∷ key_part ++ Mark Comma ∷ start_part ++ Mark RightParen ∷ Mark Semi ∷ []
-  pub key_is : IsVal key_part key
-  pub start_is : IsVal start_part start
+  pub pair_part : List TokenKind
+  pub written : kinds tokens ≡ Name table ∷ pair_part
+  pub pair : IsPair pair_part key start
   pub numbered : row.table ≡ 0
   pub keyed : row.key ≡ key_of key
   pub values : row.values ≡ Int key ∷ Int start ∷ []
@@ -122,12 +128,9 @@ pub record IsAsk (txns : List (List ℕ)) (tokens : List Token) (session : ℕ) 
   pub name : List ℕ
   pub first : ℤ
   pub second : ℤ
-  pub first_part : List TokenKind
-  pub second_part : List TokenKind
-  pub written : kinds tokens
-      ≡ word (codes "ask") ∷ count session ∷ Name name ∷ Mark LeftParen ∷ first_part ++ Mark Comma ∷ second_part ++ Mark RightParen ∷ Mark Semi ∷ []
-  pub first_is : IsVal first_part first
-  pub second_is : IsVal second_part second
+  pub pair_part : List TokenKind
+  pub written : kinds tokens ≡ word (codes "ask") ∷ count session ∷ Name name ∷ pair_part
+  pub pair : IsPair pair_part first second
   pub asks : IsWithin 1 64 session
   pub named : slice_get txns request.txn ≡ Some name
   pub args : request.args ≡ IntArg first ∷ IntArg second ∷ []

@@ -2,6 +2,9 @@
 #![tactic(auto)]
 
 mod laws;
+mod reader_checks;
+mod reader_names;
+mod readers;
 mod shows;
 mod statuses;
 mod steps;
