@@ -5,3 +5,4 @@ pub mod Lines
 pub mod Reading
 pub mod ReplayText
 pub mod Statuses
+pub mod StepFits

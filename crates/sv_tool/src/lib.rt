@@ -5,6 +5,7 @@ mod laws;
 mod reader_checks;
 mod reader_names;
 mod readers;
+mod replays;
 mod shows;
 mod statuses;
 mod steps;
