@@ -1,4 +1,5 @@
 pub mod AppendLaws
+pub mod FitLaws
 pub mod RowsOfLaws
 pub mod ShowLaws
 pub mod WordLaws

@@ -4,5 +4,7 @@ pub mod Grammar
 pub mod Lines
 pub mod Reading
 pub mod ReplayText
+pub mod Replays
+pub mod Said
 pub mod Statuses
 pub mod StepFits
