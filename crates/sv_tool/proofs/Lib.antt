@@ -1,3 +1,4 @@
+pub mod AnswerLaws
 pub mod AppendLaws
 pub mod FitLaws
 pub mod RowsOfLaws

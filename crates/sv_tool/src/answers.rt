@@ -11,6 +11,7 @@ ghost use Rattle.sv_lex.specs.Lexers.{fault_of};
 ghost use Rattle.sv_tool.specs.ReplayText.{steps_text};
 ghost use Rattle.sv_tool.specs.Replays.{table_name, ReadsAs};
 ghost use Rattle.sv_tool.specs.StepFits.{StepsFit};
+ghost use Rattle.sv_tool.specs.declared.statuses.Status.TheVariants.{Done, Refused};
 ghost use Rattle.sv_tool.specs.Said.{said_by};
 ghost use Rattle.sv_tool.specs.Answer.{at_the_front, answer_to, form_answer, form_among};
 
@@ -41,6 +42,16 @@ pub enum Halt {
     SourceFailed,
     /// There was no memory.
     NoMemory,
+}
+
+impl From<NoMemory> for Halt {
+    ghost use Rattle.sv_tool.specs.declared.answers.Halt.TheVariants.{NoMemory as no_memory};
+
+    ghost from_gives = { λ _ halt. halt ≡ no_memory };
+
+    fn from(_none: NoMemory) -> Halt {
+        Halt::NoMemory
+    }
 }
 
 /// A refusal of the whole document, placed at its front.
@@ -107,5 +118,51 @@ fn replay_in(alloc: Global, bytes: &[u8]) -> Result<Replay, Stop>
     match lex(alloc, bytes) {
         Ok(tokens) => read_replay(alloc, &tokens),
         Err(stop) => Err(stop_of(stop)),
+    }
+}
+
+/// The answer to a replay.
+fn replay_answer(alloc: Global, replay: Replay) -> Result<Answer, NoMemory>
+    requires sound { Sound (document_of replay.doc) }
+    requires steps { StepsFit (document_of replay.doc) [] replay.steps }
+    ensures status { IfOk result (λ answer. answer.status ≡ Done) }
+    ensures text { IfOk result (λ answer. answer.text.items
+        ≡ steps_text (document_of replay.doc) (table_name replay.doc.app.tables.items) [] replay.steps ++ codes "end\n") }
+{
+    Ok(Answer {
+        status: Status::Done,
+        text: replay_text(alloc, replay)?,
+    })
+}
+
+/// The answer to a document of at most 1,048,576 bytes.
+#[tactic(auto, using(crate::proofs::AnswerLaws::answering))]
+fn answer_to(alloc: Global, bytes: &[u8]) -> Result<Answer, NoMemory>
+    requires { length bytes.now ≤ most_bytes }
+    ensures { IfOk result (λ answer. said_by answer ≡ answer_to bytes.now) }
+{
+    match replay_in(alloc, bytes) {
+        Ok(replay) => replay_answer(alloc, replay),
+        Err(Stop::Refused(refusal)) => refusal_answer(alloc, &refusal),
+        Err(Stop::NoMemory) => Err(NoMemory),
+    }
+}
+
+/// Reads a document and answers it.
+///
+/// # Errors
+///
+/// `SourceFailed` only where the source's count of faults rose, and `NoMemory`.
+pub fn answer_from<S: Source>(alloc: Global, input: &mut S) -> Result<Answer, Halt>
+    ensures answer { IfOk result (λ answer. IfSome (S.left input.old) (λ bytes. said_by answer ≡ answer_to bytes)) }
+    ensures status { IfOk result (λ answer. (answer.status ≡ Done) ⊎ (answer.status ≡ Refused)) }
+    ensures end { IfOk result (λ answer. answer.status ≡ Done → IsAtEnd (S.left input.new)) }
+    ensures failed { IsErrOf result Halt.SourceFailed → Rose (S.faults input.old) (S.faults input.new) }
+{
+    match read_all(alloc, input) {
+        Ok(bytes) => Ok(answer_to(alloc, &bytes)?),
+        Err(ReadError::TooLong) => Ok(refusal_answer(alloc, &at_the_front(Code::TooLong))?),
+        Err(ReadError::Failed) => Err(Halt::SourceFailed),
+        Err(ReadError::NoMemory) => Err(Halt::NoMemory),
     }
 }
