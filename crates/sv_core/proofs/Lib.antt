@@ -1,3 +1,4 @@
+pub mod AskLaws
 pub mod BirthLaws
 pub mod CutLaws
 pub mod HistoryLaws
@@ -9,6 +10,7 @@ pub mod MissingLaws
 pub mod PlaceListLaws
 pub mod RoomLaws
 pub mod RowLaws
+pub mod StartLaws
 pub mod StepLaws
 pub mod SumLaws
 pub mod TableLaws

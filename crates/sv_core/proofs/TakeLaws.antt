@@ -97,7 +97,7 @@ row_stays doc h s p known = (record { count = initial p doc.init +ℤ gained_in 
     ∙ ap (λ b. if b then Some (record { count = initial p doc.init +ℤ gained_in p (held (published doc h) (cut_of h s)) }) else None)
         (among-append p (init_places doc) (named_to (held (published doc h) (cut_of h s)) 9) ∙ ap (λ b. b || among p (named_to (held (published doc h) (cut_of h s)) 9)) known))
 
-one_taken : (t : Tables) (e : RowEffect) (es : List RowEffect) → es ≡ e ∷ [] → HasRow (get t (place_of e)) → CanTake t es
+pub one_taken : (t : Tables) (e : RowEffect) (es : List RowEffect) → es ≡ e ∷ [] → HasRow (get t (place_of e)) → CanTake t es
 one_taken t e es only has = subst (CanTake t) (sym only) (has, tt)
 
 -- a published operation can be taken at every site

@@ -1,9 +1,9 @@
 -- A world's fields stay those of its history when an entry is added.
-use Rattle.std.proofs.Common.{◌≡◌, ◌≢◌, ◌⊎◌, inl, inr, ℕ, zero, suc, ◌+◌, ◌*◌, ◌-◌, ◌<◌, ◌≤◌, ◌==◌, nat_lt, if◌then◌else◌, Bool, true, false, List, [], ◌∷◌, ◌++◌, length, take, drop, set, get_or, Option, Some, None, slice_get, refl, sym, ap, subst, ◌∙◌, arith}
+use Rattle.std.proofs.Common.{◌≡◌, ◌≢◌, ◌⊎◌, inl, inr, ℕ, zero, suc, ◌+◌, ◌*◌, ◌-◌, ◌<◌, ◌≤◌, ◌==◌, nat_lt, if◌then◌else◌, Bool, true, false, List, [], ◌∷◌, ◌++◌, length, take, drop, set, get_or, Option, Some, None, slice_get, refl, sym, ap, subst, ◌∙◌, arith, reverse, map, Vec, Global}
 use Rattle.std.specs.Option.{option_map}
 use Rattle.std.proofs.lemmas.Bool.Decides.{nat_tests}
 use Rattle.std.proofs.lemmas.Bool.{cases_eq}
-use Rattle.std.proofs.lemmas.List.{nil_from_length}
+use Rattle.std.proofs.lemmas.List.{nil_from_length, reverse-append}
 use Rattle.std.proofs.lemmas.Option.{slice_get_within, slice_get-get_or, slice_get_past}
 use Rattle.sv_value.specs.declared.packets.Packet.{Packet}
 use Rattle.sv_value.specs.declared.packets.Packet.TheVariants.{Blue, Red}
@@ -151,13 +151,13 @@ set_get {A} (x ∷ xs) (suc at) new (suc j) a e = up (set_get xs at new j a e)
     up (inl both) = inl (ap suc both.0, both.1)
     up (inr both) = inr (λ is. both.0 (omega (arith, is)), both.1)
 
-length-set-at : {A : Type 0} (xs : List A) (at : ℕ) (new : A) → length (set xs at new) ≡ length xs
+pub length-set-at : {A : Type 0} (xs : List A) (at : ℕ) (new : A) → length (set xs at new) ≡ length xs
 length-set-at [] at new = refl
 length-set-at (x ∷ xs) zero new = refl
 length-set-at (x ∷ xs) (suc at) new = ap suc (length-set-at xs at new)
 
 -- the site of a place
-place_site : (site place : ℕ) → 1 ≤ site → place ≡ site - 1 → suc place ≡ site
+pub place_site : (site place : ℕ) → 1 ≤ site → place ≡ site - 1 → suc place ≡ site
 place_site site place one is = omega (arith, one, is)
 
 -- what a packet that is applied finds: its operation, and room for it in the cut and the rows of its site
@@ -246,3 +246,51 @@ judged_is doc h site packet op cut is stands = (λ i. judged_op (λ o. is o i) p
 pub unknown_is : (doc : Document) (h : History) (site : ℕ) (packet : Packet) → length (published doc h (origin packet)) ≤ number packet
     → Unknown (length (published doc h (origin packet))) ≡ delivered doc h site packet
 unknown_is doc h site packet past = sym (ap (delivered_op doc h site packet) (slice_get_past (published doc h (origin packet)) (number packet) past))
+
+pub same_op : (a b : Op) → Some a ≡ Some b → a ≡ b
+same_op a b e = cc
+
+pub op_inside : (doc : Document) (h : History) (site : ℕ) (packet : Packet) → delivered doc h site packet ≡ Applied → number packet < length (published doc h (origin packet))
+op_inside doc h site packet e = let r : IsReady doc h site packet = ready doc h site packet e in slice_get_within (published doc h (origin packet)) (number packet) r.op r.stands
+
+pub reverse_push : (es : List Entry) (e : Entry) → reverse (es ++ e ∷ []) ≡ e ∷ reverse es
+reverse_push es e = reverse-append es (e ∷ [])
+
+-- more room does no harm
+pub keeps_room : (doc : Document) (h : History) (lists : List (List Op)) (sites : List SiteState) (answers : List ℕ) (less more : ℕ) → less ≤ more
+    → Keeps doc h lists sites answers less → Keeps doc h lists sites answers more
+keeps_room doc h lists sites answers less more le k = record {
+  sound = k.sound;
+  legal = k.legal;
+  lists_long = k.lists_long;
+  lists_are = k.lists_are;
+  sites_long = k.sites_long;
+  sites_are = k.sites_are;
+  answers_are = k.answers_are;
+  room = omega (arith, k.room, le);
+}
+
+pub length-map-items : (lists : List (Vec Op Global)) → length (map (λ v. v.items) lists) ≡ length lists
+length-map-items [] = refl
+length-map-items (x ∷ lists) = ap suc (length-map-items lists)
+
+pub get-map : (lists : List (Vec Op Global)) (i : ℕ) (v : Vec Op Global) → slice_get lists i ≡ Some v → slice_get (map (λ v. v.items) lists) i ≡ Some v.items
+get-map [] i v e = absurd cc
+get-map (x ∷ lists) zero v e = let same : x ≡ v = cc in ap (λ y. Some y.items) same
+get-map (x ∷ lists) (suc i) v e = get-map lists i v e
+
+-- the list of a site, as it was read by its place
+pub list_at : (doc : Document) (h : History) (lists : List (Vec Op Global)) (site place : ℕ) (read : Vec Op Global) → place ≡ site → 1 ≤ place → site ≤ doc.sites
+    → length (map (λ v. v.items) lists) ≡ doc.sites
+    → ((p : ℕ) (ops : List Op) → slice_get (map (λ v. v.items) lists) p ≡ Some ops → ops ≡ published doc h (suc p)) → read ≡ get_or lists (place - 1) read → read.items ≡ published doc h site
+list_at doc h lists site place read is one most long are reads =
+    are (place - 1) read.items (get-map lists (place - 1) read (read_at lists (place - 1) read (omega (arith, is, one, most, long, length-map-items lists)) reads))
+    ∙ (λ i. published doc h (back i))
+  where
+    back : suc (place - 1) ≡ site
+    back = place_site place (place - 1) one refl ∙ is
+
+pub map-set-items : (lists : List (Vec Op Global)) (i : ℕ) (v : Vec Op Global) → map (λ v. v.items) (set lists i v) ≡ set (map (λ v. v.items) lists) i v.items
+map-set-items [] i v = refl
+map-set-items (x ∷ lists) zero v = refl
+map-set-items (x ∷ lists) (suc i) v = ap (λ l. x.items ∷ l) (map-set-items lists i v)
