@@ -3,6 +3,8 @@
 
 mod reader_checks;
 mod reader_names;
+mod reader_parts;
+mod reader_steps;
 mod readers;
 mod steps;
 
