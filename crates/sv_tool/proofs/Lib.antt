@@ -1,1 +1,3 @@
+pub mod KindLaws
+pub mod LeafLaws
 pub mod ManyLaws

@@ -1,6 +1,7 @@
 -- Reading a document of the first form from left to right: what some tokens begin with, and the tokens behind it.
 use Rattle.std.specs.Prelude.{◌≡◌, ℕ, zero, suc, ℤ, pos, negsuc, neg_ℤ, Bool, true, false, not, ◌&&◌, ◌||◌, if◌then◌else◌, nat_le, List, [], ◌∷◌, length, map, position, Option, Some, None, Result, Ok, Err, bytes_eq, codes}
 use Rattle.std.specs.List.{list_any}
+use Rattle.std.specs.Ordering.{int_eq}
 use Rattle.sv_value.specs.declared.packets.Packet.TheVariants.{Blue}
 use Rattle.sv_value.specs.declared.spots.Spot.{Spot}
 use Rattle.sv_value.specs.declared.values.Val.TheVariants.{Int}
@@ -61,9 +62,11 @@ Gives (Err NoMemory) found = Unit {0}
 abbrev pub is_mark : IsMark → IsMark → Bool
 is_mark wanted found = bytes_eq (mark_bytes found) (mark_bytes wanted)
 
--- whether a word or a mark is found
+-- whether what is found is what is wanted
 abbrev pub is_kind : TokenKind → TokenKind → Bool
 is_kind (Name wanted) (Name found) = bytes_eq found wanted
+is_kind (Number wanted) (Number found) = int_eq found wanted
+is_kind (Text wanted) (Text found) = bytes_eq found wanted
 is_kind (Mark wanted) (Mark found) = is_mark wanted found
 is_kind _ _ = false
 
@@ -75,12 +78,12 @@ abbrev pub behind : List Token → List Token
 behind [] = []
 behind (token ∷ rest) = rest
 
--- a word or a mark
+-- a token of this kind
 abbrev pub kind_at : TokenKind → List Token → Read (Unit {0})
 kind_at wanted tokens = if is_next wanted tokens then Some (tt, behind tokens) else None
 
--- some words and marks, and then what is read behind them
-abbrev pub after : {A : Type 0} → List TokenKind → List Token → (List Token → Read A) → Read A
+-- tokens of these kinds, and then what is read behind them
+unfoldable pub after : {A : Type 0} → List TokenKind → List Token → (List Token → Read A) → Read A
 after [] tokens more = more tokens
 after (wanted ∷ others) tokens more = kind_at wanted tokens >>= λ _ rest. after others rest more
 

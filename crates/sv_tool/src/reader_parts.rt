@@ -35,7 +35,7 @@ impl Reader<'_> {
     ghost use Rattle.sv_tool.specs.Reading.{Reads, table_at, txn_at, txns_at, row_at, rows_at};
 
     /// Reads a table: the names of it and of its counter.
-    #[tactic(auto, unfolding(crate::specs::Reading::table_at))]
+    #[tactic(auto, unfolding(crate::specs::Reading::table_at, crate::specs::Reading::after))]
     pub fn table(&mut self) -> Result<Schema, Stop>
         ensures { Reads result self.new.rest.now (table_at self.old.rest.now) }
     {
@@ -67,7 +67,7 @@ impl Reader<'_> {
     }
 
     /// Reads a transaction over the table, which is the one of this number.
-    #[tactic(auto, unfolding(crate::specs::Reading::txn_at))]
+    #[tactic(auto, unfolding(crate::specs::Reading::txn_at, crate::specs::Reading::after))]
     pub fn txn(&mut self, schema: &Schema, num: u16) -> Result<Txn, Stop>
         ensures { Reads result self.new.rest.now (txn_at schema.now num self.old.rest.now) }
     {
@@ -105,7 +105,7 @@ impl Reader<'_> {
     }
 
     /// Reads an initial row of the table.
-    #[tactic(auto, unfolding(crate::specs::Reading::row_at))]
+    #[tactic(auto, unfolding(crate::specs::Reading::row_at, crate::specs::Reading::after))]
     pub fn row(&mut self, alloc: Global, table: &Name) -> Result<InitRow, Stop>
         ensures { Reads result self.new.rest.now (row_at table.now self.old.rest.now) }
     {

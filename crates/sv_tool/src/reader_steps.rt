@@ -59,7 +59,7 @@ impl Reader<'_> {
         Err(refused())
     }
 
-    #[tactic(auto, unfolding(crate::specs::Reading::ask_at))]
+    #[tactic(auto, unfolding(crate::specs::Reading::ask_at, crate::specs::Reading::after))]
     fn ask(&mut self, alloc: Global, txns: &[Txn]) -> Result<Step, Stop>
         requires { length txns.now ≤ 32 }
         ensures { Reads result self.new.rest.now (ask_at txns.now self.old.rest.now) }
@@ -76,7 +76,7 @@ impl Reader<'_> {
         })
     }
 
-    #[tactic(auto, unfolding(crate::specs::Reading::deliver_at))]
+    #[tactic(auto, unfolding(crate::specs::Reading::deliver_at, crate::specs::Reading::after))]
     fn deliver(&mut self, sites: u8) -> Result<Step, Stop>
         requires { sites ≤ 8 }
         ensures { Reads result self.new.rest.now (deliver_at sites self.old.rest.now) }
@@ -93,7 +93,7 @@ impl Reader<'_> {
         })
     }
 
-    #[tactic(auto, unfolding(crate::specs::Reading::show_at))]
+    #[tactic(auto, unfolding(crate::specs::Reading::show_at, crate::specs::Reading::after))]
     fn show(&mut self, sites: u8, table: &Name) -> Result<Step, Stop>
         requires { sites ≤ 8 }
         ensures { Reads result self.new.rest.now (show_at sites table.now self.old.rest.now) }
