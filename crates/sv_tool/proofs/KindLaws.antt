@@ -122,3 +122,19 @@ after_there {B} (wanted ∷ ks) ms (token ∷ tokens) last more answer e next =
     let kind : token.kind ≡ wanted = cc in
     let others : kinds tokens ≡ ks ++ ms = cc in
     ap (λ (read : Read (Unit {0})). read >>= λ _ rest. after ks rest more) (kind_there wanted token (tokens ++ last) kind) ∙ after_there ks ms tokens last more answer others next
+
+-- tokens of given kinds are read, and what stands behind them has its kinds
+pub record Stands {B : Type 0} (ks ms : List TokenKind) (tokens last : List Token) (more : List Token → Read B) : Type 0 where
+  pub back : List Token
+  pub are : kinds back ≡ ms
+  pub is : after ks (tokens ++ last) more ≡ more (back ++ last)
+
+pub after_stands : {B : Type 0} (ks ms : List TokenKind) (tokens last : List Token) (more : List Token → Read B) → kinds tokens ≡ ks ++ ms → Stands ks ms tokens last more
+unfolding after
+after_stands [] ms tokens last more e = record { back = tokens; are = e; is = refl }
+after_stands (wanted ∷ ks) ms [] last more e = absurd cc
+after_stands {B} (wanted ∷ ks) ms (token ∷ tokens) last more e =
+    let kind : token.kind ≡ wanted = cc in
+    let others : kinds tokens ≡ ks ++ ms = cc in
+    let s = after_stands ks ms tokens last more others in
+    record { back = s.back; are = s.are; is = ap (λ (read : Read (Unit {0})). read >>= λ _ rest. after ks rest more) (kind_there wanted token (tokens ++ last) kind) ∙ s.is }

@@ -311,7 +311,7 @@ value_there {B} _ ms _ (sign ∷ token ∷ tokens) last more answer (Signed n fi
     let others : kinds tokens ≡ ms = cc in
     ap (λ (read : Read ℤ). read >>= more) (value_signed sign token (tokens ++ last) n first kind fits) ∙ next tokens others
 
-name_here : (token : Token) (rest : List Token) (name : List ℕ) → token.kind ≡ Name name → IsFree name → name_at (token ∷ rest) ≡ Some (name, rest)
+pub name_here : (token : Token) (rest : List Token) (name : List ℕ) → token.kind ≡ Name name → IsFree name → name_at (token ∷ rest) ≡ Some (name, rest)
 name_here token rest name e free =
     ap (λ k. with_rest rest (name_in k)) e ∙ ap (λ b. with_rest rest (cond b None (Some name))) (free_is name free)
 

@@ -1,3 +1,4 @@
 pub mod KindLaws
 pub mod LeafLaws
 pub mod ManyLaws
+pub mod PartLaws
