@@ -1,6 +1,10 @@
 pub mod AnswerLaws
 pub mod AppendLaws
 pub mod FitLaws
+pub mod KindLaws
+pub mod LeafLaws
+pub mod ManyLaws
+pub mod PartLaws
 pub mod RowsOfLaws
 pub mod ShowLaws
 pub mod WordLaws

@@ -1,6 +1,7 @@
 -- Reading a document of the first form from left to right: what some tokens begin with, and the tokens behind it.
 use Rattle.std.specs.Prelude.{◌≡◌, ℕ, zero, suc, ℤ, pos, negsuc, neg_ℤ, Bool, true, false, not, ◌&&◌, ◌||◌, if◌then◌else◌, nat_le, List, [], ◌∷◌, length, map, position, Option, Some, None, Result, Ok, Err, bytes_eq, codes}
 use Rattle.std.specs.List.{list_any}
+use Rattle.std.specs.Ordering.{int_eq}
 use Rattle.sv_value.specs.declared.packets.Packet.TheVariants.{Blue}
 use Rattle.sv_value.specs.declared.spots.Spot.{Spot}
 use Rattle.sv_value.specs.declared.values.Val.TheVariants.{Int}
@@ -18,6 +19,7 @@ use Rattle.sv_app.specs.declared.refusals.Stop.{Stop}
 use Rattle.sv_app.specs.declared.refusals.Stop.TheVariants.{Refused, NoMemory}
 use Rattle.sv_app.specs.declared.requests.Arg.TheVariants.{Int as IntArg}
 use Rattle.sv_app.specs.declared.requests.InitRow.{InitRow}
+use Rattle.sv_app.specs.declared.requests.Request.{Request}
 use Rattle.sv_core.specs.Run.{fits64, key_of}
 use Rattle.sv_core.specs.TablesOfCut.{is_place, init_place}
 use Rattle.sv_tool.specs.declared.readers.Pair.{Pair}
@@ -60,9 +62,11 @@ Gives (Err NoMemory) found = Unit {0}
 abbrev pub is_mark : IsMark → IsMark → Bool
 is_mark wanted found = bytes_eq (mark_bytes found) (mark_bytes wanted)
 
--- whether a word or a mark is found
+-- whether what is found is what is wanted
 abbrev pub is_kind : TokenKind → TokenKind → Bool
 is_kind (Name wanted) (Name found) = bytes_eq found wanted
+is_kind (Number wanted) (Number found) = int_eq found wanted
+is_kind (Text wanted) (Text found) = bytes_eq found wanted
 is_kind (Mark wanted) (Mark found) = is_mark wanted found
 is_kind _ _ = false
 
@@ -74,12 +78,12 @@ abbrev pub behind : List Token → List Token
 behind [] = []
 behind (token ∷ rest) = rest
 
--- a word or a mark
+-- a token of this kind
 abbrev pub kind_at : TokenKind → List Token → Read (Unit {0})
 kind_at wanted tokens = if is_next wanted tokens then Some (tt, behind tokens) else None
 
--- some words and marks, and then what is read behind them
-abbrev pub after : {A : Type 0} → List TokenKind → List Token → (List Token → Read A) → Read A
+-- tokens of these kinds, and then what is read behind them
+unfoldable pub after : {A : Type 0} → List TokenKind → List Token → (List Token → Read A) → Read A
 after [] tokens more = more tokens
 after (wanted ∷ others) tokens more = kind_at wanted tokens >>= λ _ rest. after others rest more
 
@@ -190,10 +194,13 @@ abbrev pub named_at : List Txn → List Token → Read ℕ
 named_at txns [] = None
 named_at txns (token ∷ rest) = with_rest rest (txn_in txns token.kind)
 
+abbrev pub request_of : ℕ → Pair → Request
+request_of txn pair = record { txn = txn; args = IntArg pair.first ∷ IntArg pair.second ∷ [] }
+
 unfoldable pub ask_at : List Txn → List Token → Read Step
 ask_at txns tokens =
     after (word (codes "ask") ∷ []) tokens λ r1. number_at 1 64 r1 >>= λ session r2. named_at txns r2 >>= λ txn r3. pair_at r3 >>= λ pair r4.
-    Some (Ask session (record { txn = txn; args = IntArg pair.first ∷ IntArg pair.second ∷ [] }), r4)
+    Some (Ask session (request_of txn pair), r4)
 
 unfoldable pub deliver_at : ℕ → List Token → Read Step
 deliver_at sites tokens =
@@ -216,19 +223,19 @@ ends [] = true
 ends (token ∷ rest) = is_kind (Mark Percents) token.kind
 
 -- as many items as stand here, up to so many, numbered from a first number on
-abbrev pub many : {A : Type 0} → (ℕ → List Token → Read A) → ℕ → ℕ → List Token → Read (List A)
+unfoldable pub many : {A : Type 0} → (ℕ → List Token → Read A) → ℕ → ℕ → List Token → Read (List A)
 many read first zero tokens = Some ([], tokens)
 many read first (suc more) tokens =
     if ends tokens then Some ([], tokens)
     else (read first tokens >>= λ item rest. many read (suc first) more rest >>= λ items last. Some (item ∷ items, last))
 
-unfoldable pub txns_at : Schema → List Token → Read (List Txn)
+abbrev pub txns_at : Schema → List Token → Read (List Txn)
 txns_at schema tokens = many (txn_at schema) 0 32 tokens
 
-unfoldable pub rows_at : List ℕ → List Token → Read (List InitRow)
+abbrev pub rows_at : List ℕ → List Token → Read (List InitRow)
 rows_at table tokens = many (λ _. row_at table) 0 1024 tokens
 
-unfoldable pub steps_at : List ℕ → List Txn → ℕ → List Token → Read (List Step)
+abbrev pub steps_at : List ℕ → List Txn → ℕ → List Token → Read (List Step)
 steps_at table txns sites tokens = many (λ _. step_at table txns sites) 0 65536 tokens
 
 abbrev pub has_name : List ℕ → List Txn → Bool

@@ -4,6 +4,8 @@
 mod laws;
 mod reader_checks;
 mod reader_names;
+mod reader_parts;
+mod reader_steps;
 mod readers;
 mod replays;
 mod shows;

@@ -181,7 +181,7 @@ impl Reader<'_> {
     }
 
     /// Reads two values in parentheses, and the semicolon behind them.
-    #[tactic(auto, unfolding(crate::specs::Reading::pair_at))]
+    #[tactic(auto, unfolding(crate::specs::Reading::pair_at, crate::specs::Reading::after))]
     pub fn pair(&mut self) -> Result<Pair, Stop>
         ensures { Reads result self.new.rest.now (pair_at self.old.rest.now) }
     {
