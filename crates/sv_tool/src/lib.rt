@@ -1,19 +1,23 @@
 //! Reads documents and writes what comes of them.
 #![tactic(auto)]
 
+mod answers;
 mod laws;
 mod reader_checks;
 mod reader_names;
 mod reader_parts;
 mod reader_steps;
+mod reader_stub;
 mod readers;
 mod replays;
 mod shows;
 mod statuses;
 mod steps;
 mod texts;
+mod tops;
 mod words;
 
 pub use laws::rows_are_listed;
 pub use steps::{Replay, Step};
+pub use tops::{plain, top};
 pub use words::Words;
