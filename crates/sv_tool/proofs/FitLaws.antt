@@ -23,7 +23,7 @@ use Rattle.sv_tool.specs.declared.steps.Step.TheVariants.{Ask, Deliver, Show}
 use Rattle.sv_tool.specs.Form.{Form, document_of_form, asks_in}
 use Rattle.sv_tool.specs.Grammar.{IsForm, IsRow, IsStep, IsAsk, IsVal, Plain, Signed, AreMany}
 use Rattle.sv_tool.specs.ReplayText.{after_step, after_steps}
-use Rattle.sv_tool.specs.StepFits.{CanAsk, StepFits, StepsFit}
+use Rattle.sv_tool.specs.CanMake.{CanAsk, CanMake, CanMakeAll}
 
 val_fits : {kinds : List TokenKind} {n : ℤ} → IsVal kinds n → IsTrue (fits64 n)
 val_fits (Plain n fits) = fits
@@ -82,7 +82,7 @@ can_ask form doc tokens h session request txns a lt = record {
 }
 
 steps_fit : (form : Form) (doc : Document) (tokens : List Token) (h : History) (steps : List Step) → doc.txns ≡ length form.txns → doc.sites ≡ form.sites
-    → AreMany (IsStep form.table form.txns form.sites) tokens steps → answers h + asks_in steps ≤ doc.asks → StepsFit doc h steps
+    → AreMany (IsStep form.table form.txns form.sites) tokens steps → answers h + asks_in steps ≤ doc.asks → CanMakeAll doc h steps
 steps_fit form doc tokens h [] txns sites many room = tt
 steps_fit form doc tokens h (Ask session request ∷ steps) txns sites many room =
     (can_ask form doc many.front h session request txns many.first (omega (arith, room)),
@@ -96,7 +96,7 @@ steps_fit form doc tokens h (Show site number ∷ steps) txns sites many room =
     (record { from = many.first.at.from; to = omega (arith, sites, many.first.at.to) },
      steps_fit form doc many.others h steps txns sites many.then room)
 
-pub form_fits : (tokens : List Token) (form : Form) → IsForm tokens form → StepsFit (document_of_form form) [] form.steps
+pub form_fits : (tokens : List Token) (form : Form) → IsForm tokens form → CanMakeAll (document_of_form form) [] form.steps
 form_fits tokens form f = steps_fit form (document_of_form form) f.step_part [] form.steps refl refl f.steps (omega arith)
 
 -- what a step makes of a legal history is legal
@@ -107,7 +107,7 @@ delivery_legal doc h site packet sound legal from to Duplicate e = legal
 delivery_legal doc h site packet sound legal from to (Early missing) e = legal
 delivery_legal doc h site packet sound legal from to (Unknown n) e = legal
 
-pub steps_legal : (doc : Document) (h : History) (steps : List Step) → Sound doc → Legal doc h → StepsFit doc h steps → Legal doc (after_steps doc h steps)
+pub steps_legal : (doc : Document) (h : History) (steps : List Step) → Sound doc → Legal doc h → CanMakeAll doc h steps → Legal doc (after_steps doc h steps)
 steps_legal doc h [] sound legal fit = legal
 steps_legal doc h (Ask session request ∷ steps) sound legal fit =
     steps_legal doc (answer_due doc h session request ∷ h) steps sound (due_next doc h session request fit.0.from fit.0.to fit.0.fits fit.0.awaited, legal) fit.1

@@ -1,10 +1,9 @@
 pub mod Answer
+pub mod CanMake
 pub mod Form
 pub mod Grammar
 pub mod Lines
+pub mod ReadDocument
 pub mod Reading
 pub mod ReplayText
-pub mod Replays
-pub mod Said
 pub mod Statuses
-pub mod StepFits

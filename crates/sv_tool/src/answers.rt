@@ -9,10 +9,9 @@ ghost use Rattle.sv_core.specs.Sound.{Sound};
 ghost use Rattle.sv_lex.specs.Tokens.{lexed};
 ghost use Rattle.sv_lex.specs.Lexers.{fault_of};
 ghost use Rattle.sv_tool.specs.ReplayText.{steps_text};
-ghost use Rattle.sv_tool.specs.Replays.{table_name, ReadsAs};
-ghost use Rattle.sv_tool.specs.StepFits.{StepsFit};
+ghost use Rattle.sv_tool.specs.ReadDocument.{table_name, ReadsAs, said_by};
+ghost use Rattle.sv_tool.specs.CanMake.{CanMakeAll};
 ghost use Rattle.sv_tool.specs.declared.statuses.Status.TheVariants.{Done, Refused};
-ghost use Rattle.sv_tool.specs.Said.{said_by};
 ghost use Rattle.sv_tool.specs.Answer.{at_the_front, answer_to, form_answer, form_among};
 
 use crate::reader_stub::read_replay;
@@ -87,7 +86,7 @@ fn table_name(doc: &Doc) -> Name
 /// The text of a replay: the lines of its steps, and then `end`.
 fn replay_text(alloc: Global, replay: Replay) -> Result<Vec<u8>, NoMemory>
     requires sound { Sound (document_of replay.doc) }
-    requires steps { StepsFit (document_of replay.doc) [] replay.steps }
+    requires steps { CanMakeAll (document_of replay.doc) [] replay.steps }
     ensures { IfOk result (λ text. text.items
         ≡ steps_text (document_of replay.doc) (table_name replay.doc.app.tables.items) [] replay.steps ++ codes "end\n") }
 {
@@ -124,7 +123,7 @@ fn replay_in(alloc: Global, bytes: &[u8]) -> Result<Replay, Stop>
 /// The answer to a replay.
 fn replay_answer(alloc: Global, replay: Replay) -> Result<Answer, NoMemory>
     requires sound { Sound (document_of replay.doc) }
-    requires steps { StepsFit (document_of replay.doc) [] replay.steps }
+    requires steps { CanMakeAll (document_of replay.doc) [] replay.steps }
     ensures status { IfOk result (λ answer. answer.status ≡ Done) }
     ensures text { IfOk result (λ answer. answer.text.items
         ≡ steps_text (document_of replay.doc) (table_name replay.doc.app.tables.items) [] replay.steps ++ codes "end\n") }

@@ -4,7 +4,7 @@ ghost use Rattle.sv_core.specs.Sound.{Sound};
 ghost use Rattle.sv_core.specs.World.{answer_due, delivered, after_delivery};
 ghost use Rattle.sv_tool.specs.Lines.{entry_line, delivered_line, show_lines};
 ghost use Rattle.sv_tool.specs.ReplayText.{rows_of, step_text, after_step, steps_text, after_steps};
-ghost use Rattle.sv_tool.specs.StepFits.{CanAsk, IsSiteOf, StepFits, StepsFit};
+ghost use Rattle.sv_tool.specs.CanMake.{CanAsk, IsSiteOf, CanMake, CanMakeAll};
 
 use crate::shows::put_show;
 use crate::steps::Step;
@@ -69,7 +69,7 @@ fn make_step(
     step: Step,
     out: &mut Vec<u8>,
 ) -> Result<(), NoMemory>
-    requires { StepFits world.old.doc world.old.history step }
+    requires { CanMake world.old.doc world.old.history step }
     ensures text { OnOk result (out.new.items ≡ out.old.items ++ step_text world.old.doc name.now world.old.history step) }
     ensures after { OnOk result (world.new ≡ record world.old { history = after_step world.old.doc world.old.history step }) }
 {
@@ -89,7 +89,7 @@ pub fn make_steps(
     steps: Vec<Step>,
     out: &mut Vec<u8>,
 ) -> Result<(), NoMemory>
-    requires { StepsFit world.old.doc world.old.history steps.items }
+    requires { CanMakeAll world.old.doc world.old.history steps.items }
     ensures text { OnOk result (out.new.items ≡ out.old.items ++ steps_text world.old.doc name.now world.old.history steps.items) }
     ensures after { OnOk result (world.new ≡ record world.old { history = after_steps world.old.doc world.old.history steps.items }) }
 {

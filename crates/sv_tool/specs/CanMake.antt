@@ -1,4 +1,4 @@
--- What a step asks of the document that it belongs to, over the history that the steps before it made.
+-- Which steps can be made on a world of a document, over the history that the steps before them made.
 use Rattle.std.specs.Prelude.{ℕ, ◌≤◌, ◌<◌, List, [], ◌∷◌}
 use Rattle.sv_app.specs.declared.requests.Request.{Request}
 use Rattle.sv_core.specs.Document.{Document}
@@ -20,11 +20,11 @@ pub record CanAsk (doc : Document) (h : History) (session : ℕ) (request : Requ
   pub fits : FitsDoc doc request
   pub awaited : answers h < doc.asks
 
-abbrev pub StepFits : Document → History → Step → Type 0
-StepFits doc h (Ask session request) = CanAsk doc h session request
-StepFits doc h (Deliver site packet) = IsSiteOf doc site
-StepFits doc h (Show site table) = IsSiteOf doc site
+abbrev pub CanMake : Document → History → Step → Type 0
+CanMake doc h (Ask session request) = CanAsk doc h session request
+CanMake doc h (Deliver site packet) = IsSiteOf doc site
+CanMake doc h (Show site table) = IsSiteOf doc site
 
-abbrev pub StepsFit : Document → History → List Step → Type 0
-StepsFit doc h [] = Unit {0}
-StepsFit doc h (step ∷ steps) = StepFits doc h step × StepsFit doc (after_step doc h step) steps
+abbrev pub CanMakeAll : Document → History → List Step → Type 0
+CanMakeAll doc h [] = Unit {0}
+CanMakeAll doc h (step ∷ steps) = CanMake doc h step × CanMakeAll doc (after_step doc h step) steps
