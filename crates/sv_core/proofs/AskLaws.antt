@@ -1,43 +1,39 @@
 -- A world's fields stay those of its history when an answer is added.
-use Rattle.std.proofs.Common.{◌≡◌, ◌≢◌, ◌⊎◌, inl, inr, ℕ, zero, suc, ◌+◌, ◌*◌, ◌-◌, ◌<◌, ◌≤◌, ◌==◌, ◌&&◌, if◌then◌else◌, Bool, true, false, List, [], ◌∷◌, ◌++◌, length, set, get_or, Option, Some, None, slice_get, refl, sym, ap, subst, ◌∙◌, arith, reverse}
-use Rattle.std.specs.Prelude.{IsTrue}
-use Rattle.std.proofs.lemmas.Bool.Decides.{nat_tests}
+use Rattle.std.proofs.Common.{◌≡◌, ◌⊎◌, inl, inr, ℕ, zero, suc, ◌+◌, ◌-◌, ◌<◌, ◌≤◌, ◌==◌, ◌&&◌, if◌then◌else◌, Bool, true, false, List, [], ◌∷◌, ◌++◌, length, set, get_or, Option, Some, None, slice_get, refl, sym, ap, subst, ◌∙◌, arith}
 use Rattle.std.proofs.lemmas.Bool.{cases_eq}
 use Rattle.std.proofs.lemmas.List.{get_or-set_same, get_or-set_other}
 use Rattle.std.specs.FinMap.{get}
 use Rattle.sv_value.specs.declared.packets.Packet.{Packet}
-use Rattle.sv_value.specs.declared.packets.Packet.TheVariants.{Blue, Red}
-use Rattle.sv_value.specs.Cuts.{counts, more, origin, number}
+use Rattle.sv_value.specs.declared.packets.Packet.TheVariants.{Blue}
+use Rattle.sv_value.specs.Cuts.{counts, more, origin}
 use Rattle.sv_app.specs.declared.requests.Request.{Request}
-use Rattle.sv_app.specs.Tables.{Row, Tables}
+use Rattle.sv_app.specs.Tables.{Row}
 use Rattle.sv_core.specs.Document.{Document}
 use Rattle.sv_core.specs.declared.ops.RowEffect.{RowEffect}
 use Rattle.sv_core.specs.declared.ops.Op.{Op}
 use Rattle.sv_core.specs.declared.runs.Ran.{Ran}
 use Rattle.sv_core.specs.declared.sites.SiteState.{SiteState}
-use Rattle.sv_core.specs.declared.entries.Outcome.{Outcome}
-use Rattle.sv_core.specs.declared.entries.Reply.{Reply}
 use Rattle.sv_core.specs.declared.entries.Reply.TheVariants as reply
 use Rattle.sv_core.specs.declared.entries.Entry.{Entry}
 use Rattle.sv_core.specs.declared.entries.Entry.TheVariants.{Answer, Apply}
-use Rattle.sv_core.specs.Cut.{Cut, as_deps}
+use Rattle.sv_core.specs.Cut.{as_deps}
 use Rattle.sv_core.specs.Applied.{with_changes, place_of}
 use Rattle.sv_core.specs.TablesOfCut.{tables_of}
-use Rattle.sv_core.specs.Run.{run_of, place_asked}
+use Rattle.sv_core.specs.Run.{run_of}
 use Rattle.sv_core.specs.Sound.{Sound}
-use Rattle.sv_core.specs.History.{History, cut_of, back_to, op_of, published, tables_at, count_where, is_answer, is_answer_of, answers, answered}
-use Rattle.sv_core.specs.Legal.{home, Legal, IsNext, IsAnswer, FitsDoc}
+use Rattle.sv_core.specs.History.{History, cut_of, back_to, op_of, published, tables_at, answers, answered}
+use Rattle.sv_core.specs.Legal.{home, Legal, IsNext, FitsDoc}
 use Rattle.sv_core.specs.Rows.{CanTake, HasRow}
-use Rattle.sv_core.specs.World.{packet_due, answer_of, answer_due}
+use Rattle.sv_core.specs.World.{packet_due, answer_due}
 use Rattle.sv_core.specs.WorldState.{Stands, Keeps, IsReply, Publishes}
 use Rattle.sv_core.proofs.ListLaws.{get_last}
 use Rattle.sv_core.proofs.CutLaws.{same_test, other_test}
-use Rattle.sv_core.proofs.HistoryLaws.{within, own, back_to_now, home_least, home_most}
+use Rattle.sv_core.proofs.HistoryLaws.{own, back_to_now}
 use Rattle.sv_core.proofs.BirthLaws.{Birth, birth}
-use Rattle.sv_core.proofs.RoomLaws.{answers_few, length_few, published_few}
-use Rattle.sv_core.proofs.TakeLaws.{sized, row_within, row_stays, one_taken}
+use Rattle.sv_core.proofs.RoomLaws.{answers_few}
+use Rattle.sv_core.proofs.TakeLaws.{row_within, row_stays, one_taken}
 use Rattle.sv_core.proofs.StepLaws.{tables_brought, tables_rest, brings_more, brings_none, due_next}
-use Rattle.sv_core.proofs.WorldLaws.{set_get, length-set-at, place_site, keeps_room}
+use Rattle.sv_core.proofs.WorldLaws.{set_get, length-set-at, place_site}
 
 -- a session's answers are among all answers
 pub answered_few : (h : History) (k : ℕ) → answered h k ≤ answers h

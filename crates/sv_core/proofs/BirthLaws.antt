@@ -1,14 +1,12 @@
 -- Where a published operation came from: it is made by a run on its site's tables, on its site's cut.
-use Rattle.std.proofs.Common.{◌≡◌, ◌⊎◌, inl, inr, ℕ, zero, suc, ◌<◌, ◌≤◌, ◌||◌, ◌&&◌, if◌then◌else◌, Bool, true, false, List, [], ◌∷◌, ◌++◌, length, take, drop, Option, Some, None, slice_get, refl, sym, ap, subst, ◌∙◌, arith}
-use Rattle.std.specs.Prelude.{ℤ, ◌+ℤ◌, map, IsTrue}
+use Rattle.std.proofs.Common.{◌≡◌, ◌⊎◌, inl, inr, ℕ, zero, suc, ◌≤◌, ◌||◌, ◌&&◌, if◌then◌else◌, Bool, true, false, List, [], ◌∷◌, ◌++◌, length, take, Option, Some, None, slice_get, refl, sym, ap, subst, ◌∙◌}
+use Rattle.std.specs.Prelude.{◌+ℤ◌, map, IsTrue}
 use Rattle.std.specs.FinMap.{get}
 use Rattle.sv_value.specs.declared.packets.Packet.{Packet}
-use Rattle.sv_value.specs.declared.packets.Packet.TheVariants.{Blue, Red}
 use Rattle.sv_value.specs.Cuts.{counts, origin}
 use Rattle.sv_app.specs.declared.places.Place.{Place}
 use Rattle.sv_app.specs.declared.requests.Request.{Request}
-use Rattle.sv_app.specs.declared.requests.InitRow.{InitRow}
-use Rattle.sv_app.specs.Tables.{Row, Tables}
+use Rattle.sv_app.specs.Tables.{Row}
 use Rattle.sv_core.specs.Document.{Document}
 use Rattle.sv_core.specs.declared.ops.RowEffect.{RowEffect}
 use Rattle.sv_core.specs.declared.ops.Op.{Op}
@@ -22,10 +20,9 @@ use Rattle.sv_core.specs.declared.entries.Outcome.TheVariants.{Done, Range}
 use Rattle.sv_core.specs.declared.runs.Ran.{Ran}
 use Rattle.sv_core.specs.Run.{ends, run_at, run_of, place_asked, change_asked, second_arg, fits64}
 use Rattle.sv_core.specs.History.{History, cut_of, back_to, op_of, news, published, tables_at}
-use Rattle.sv_core.specs.Legal.{Legal, IsAnswer, IsPacket, FitsDoc}
-use Rattle.sv_core.proofs.ListLaws.{get_taken}
+use Rattle.sv_core.specs.Legal.{Legal, IsAnswer, IsPacket}
 use Rattle.sv_core.proofs.MediumLaws.{news_get}
-use Rattle.sv_core.proofs.HistoryLaws.{back_to_now, IsNextBlue, packed, own, counts_cut, few}
+use Rattle.sv_core.proofs.HistoryLaws.{back_to_now, IsNextBlue, packed, own, counts_cut}
 use Rattle.sv_core.proofs.PlaceListLaws.{among, among-append, names}
 use Rattle.sv_core.proofs.TableLaws.{get-tables_by}
 use Rattle.std.proofs.lemmas.Map.Views.{tells_apart}
@@ -171,7 +168,7 @@ born_next doc h (Answer session index request site at reply None) o op some eigh
 born_next doc h (Answer session index request site at reply (Some packet)) o op some eight legal all n =
     let both : (origin packet, op_of doc (published doc h) h site at request) ≡ (o, op) = same_pair (origin packet, op_of doc (published doc h) h site at request) (o, op) n in
     subst (λ k. Birth doc k.0 (length (published doc h k.0)) k.1) both
-        (born doc h session index request site at reply packet some eight legal.1 (all_known doc h all) legal.0)
+    (born doc h session index request site at reply packet some eight legal.1 (all_known doc h all) legal.0)
 born_next doc h (Apply site packet) o op some eight legal all n = absurd cc
 
 -- each published operation was made so

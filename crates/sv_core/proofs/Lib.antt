@@ -8,6 +8,7 @@ pub mod ListedLaws
 pub mod MediumLaws
 pub mod MissingLaws
 pub mod PlaceListLaws
+pub mod Promises
 pub mod RoomLaws
 pub mod RowLaws
 pub mod StartLaws

@@ -1,5 +1,5 @@
 -- The list of a blue packet.
-use Rattle.std.proofs.Common.{◌≡◌, ℕ, zero, suc, ◌-◌, ◌≤◌, List, [], get_or, refl, ap, arith}
+use Rattle.std.proofs.Common.{◌≡◌, ℕ, zero, suc, ◌-◌, ◌≤◌, List, [], get_or, ap, arith}
 use Rattle.sv_value.specs.declared.packets.Packet.TheVariants.{Blue}
 use Rattle.sv_core.specs.declared.ops.Op.{Op}
 use Rattle.sv_core.specs.WorldState.{listed}

@@ -1,5 +1,5 @@
 -- The origins of missing packets, one after the other.
-use Rattle.std.proofs.Common.{◌≡◌, ℕ, zero, suc, ◌+◌, ◌<◌, ◌≤◌, [], ◌∷◌, drop, refl, sym, ap, ◌∙◌, arith}
+use Rattle.std.proofs.Common.{◌≡◌, ℕ, zero, suc, ◌+◌, ◌<◌, ◌≤◌, ◌∷◌, drop, refl, sym, ap, ◌∙◌, arith}
 use Rattle.std.specs.Prelude.{if◌then◌else◌, nat_lt, Option, Some, None}
 use Rattle.std.specs.Option.{option_map}
 use Rattle.std.proofs.lemmas.Bool.Decides.{nat_tests}
@@ -34,8 +34,8 @@ pub missing_here : (cut deps : ℕ → ℕ) (place : ℕ) (packet : Packet) → 
     → packet ≡ packet_at (place + 1) (cut (suc place)) → Some packet ≡ first_missing cut deps
 missing_here cut deps place packet small lt passed is =
     let here : first_short origins cut deps ≡ Some (suc place) =
-        passed ∙ ap (λ os. first_short os cut deps) (origins_at place small)
-        ∙ if_lower (cut (suc place)) (deps (suc place)) (Some (suc place)) (first_short (drop (place + 1) origins) cut deps) lt in
+    passed ∙ ap (λ os. first_short os cut deps) (origins_at place small)
+    ∙ if_lower (cut (suc place)) (deps (suc place)) (Some (suc place)) (first_short (drop (place + 1) origins) cut deps) lt in
     let one : place + 1 ≡ suc place = omega arith in
     (λ i. Some (is i)) ∙ (λ i. Some (packet_at (one i) (cut (suc place)))) ∙ sym (ap (λ o. option_map (λ x. packet_at x (cut x)) o) here)
 

@@ -1,5 +1,5 @@
 -- The world of a sound document to which nothing has happened.
-use Rattle.std.proofs.Common.{◌≡◌, ℕ, zero, suc, ◌*◌, ◌-◌, ◌≤◌, List, [], ◌∷◌, length, get_or, Some, slice_get, refl, sym, ap, ◌∙◌, arith, subst, reverse}
+use Rattle.std.proofs.Common.{◌≡◌, ℕ, zero, suc, ◌*◌, ◌-◌, ◌≤◌, List, [], length, get_or, Some, slice_get, refl, sym, ap, ◌∙◌, subst, reverse}
 use Rattle.std.specs.Prelude.{replicate}
 use Rattle.sv_core.specs.declared.ops.Op.{Op}
 use Rattle.sv_core.specs.declared.sites.SiteState.{SiteState}
@@ -8,7 +8,6 @@ use Rattle.sv_core.specs.Document.{Document}
 use Rattle.sv_core.specs.Sound.{Sound}
 use Rattle.sv_core.specs.TablesOfCut.{tables_held}
 use Rattle.sv_core.specs.Cut.{empty}
-use Rattle.sv_core.specs.History.{published}
 use Rattle.sv_core.specs.WorldState.{AreFresh, Keeps}
 
 none_in : (n place : ℕ) (ops : List Op) → slice_get (replicate n []) place ≡ Some ops → ops ≡ []

@@ -1,31 +1,20 @@
 -- What an entry does to a site's cut and tables, and to the lists of operations.
-use Rattle.std.proofs.Common.{◌≡◌, ◌≢◌, ◌⊎◌, inl, inr, ℕ, zero, suc, ◌+◌, ◌*◌, ◌-◌, ◌<◌, ◌≤◌, ◌==◌, ◌&&◌, if◌then◌else◌, Bool, true, false, List, [], ◌∷◌, ◌++◌, length, take, drop, set, get_or, Option, Some, None, slice_get, refl, sym, ap, subst, ◌∙◌, arith}
-use Rattle.std.specs.Prelude.{IsTrue}
-use Rattle.std.proofs.lemmas.Bool.Decides.{nat_tests}
-use Rattle.std.proofs.lemmas.Bool.{cases_eq}
-use Rattle.sv_value.specs.declared.packets.Packet.{Packet}
-use Rattle.sv_value.specs.declared.packets.Packet.TheVariants.{Blue, Red}
-use Rattle.sv_value.specs.Cuts.{counts, more, Covers, origin, number}
+use Rattle.std.proofs.Common.{◌≡◌, ℕ, suc, ◌<◌, ◌≤◌, ◌==◌, ◌&&◌, if◌then◌else◌, Bool, List, [], ◌∷◌, length, Some, slice_get, refl, sym, ap, subst, ◌∙◌}
+use Rattle.sv_value.specs.Cuts.{more}
 use Rattle.sv_app.specs.declared.requests.Request.{Request}
-use Rattle.sv_app.specs.Tables.{Tables}
 use Rattle.sv_core.specs.Document.{Document}
 use Rattle.sv_core.specs.declared.ops.RowEffect.{RowEffect}
 use Rattle.sv_core.specs.declared.ops.Op.{Op}
-use Rattle.sv_core.specs.declared.runs.Ran.{Ran}
-use Rattle.sv_core.specs.declared.entries.Reply.{Reply}
 use Rattle.sv_core.specs.declared.entries.Reply.TheVariants as reply
 use Rattle.sv_core.specs.declared.entries.Entry.{Entry}
-use Rattle.sv_core.specs.declared.entries.Entry.TheVariants.{Answer, Apply}
-use Rattle.sv_core.specs.Cut.{Cut, Medium, as_deps, Lies}
 use Rattle.sv_core.specs.Applied.{applied}
 use Rattle.sv_core.specs.TablesOfCut.{tables_of}
 use Rattle.sv_core.specs.Run.{run_of}
-use Rattle.sv_core.specs.History.{History, brings, cut_of, back_to, op_of, news, with_news, published, tables_at, answers, answered}
-use Rattle.sv_core.specs.Legal.{home, Legal, IsNext, IsAnswer, IsApply, IsPacket, FitsDoc}
-use Rattle.sv_core.specs.World.{packet_due, answer_of, answer_due}
-use Rattle.sv_core.proofs.ListLaws.{get_last, get_within}
+use Rattle.sv_core.specs.History.{History, cut_of, back_to, published, tables_at, answers}
+use Rattle.sv_core.specs.Legal.{home, Legal, IsNext, IsPacket, FitsDoc}
+use Rattle.sv_core.specs.World.{packet_due, answer_due}
 use Rattle.sv_core.proofs.CutLaws.{same_test, other_test}
-use Rattle.sv_core.proofs.HistoryLaws.{within, own, tables_since, back_to_now, at_end}
+use Rattle.sv_core.proofs.HistoryLaws.{within, tables_since, back_to_now}
 use Rattle.sv_core.proofs.TableLaws.{tables_of-more}
 
 -- the tables of a site to which the entry brings the next operation of an origin

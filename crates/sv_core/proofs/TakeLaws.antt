@@ -1,22 +1,18 @@
 -- A site's rows can take each operation: its row is kept, and its counter has room.
-use Rattle.std.proofs.Common.{◌≡◌, ◌⊎◌, inl, inr, ℕ, zero, suc, ◌+◌, ◌*◌, ◌^◌, ◌<◌, ◌≤◌, ◌||◌, if◌then◌else◌, Bool, true, false, List, [], ◌∷◌, ◌++◌, length, take, Option, Some, None, slice_get, refl, sym, ap, subst, ◌∙◌, arith}
-use Rattle.std.specs.Prelude.{ℤ, pos, ◌+ℤ◌, map, All}
+use Rattle.std.proofs.Common.{◌≡◌, ℕ, zero, suc, ◌*◌, ◌^◌, ◌≤◌, ◌||◌, if◌then◌else◌, Bool, true, false, List, [], ◌∷◌, ◌++◌, length, take, Option, Some, None, slice_get, refl, sym, ap, subst, ◌∙◌, arith}
+use Rattle.std.specs.Prelude.{◌+ℤ◌, All}
 use Rattle.std.proofs.lemmas.Int.{ints}
 use Rattle.std.specs.FinMap.{get}
 use Rattle.std.proofs.lemmas.Option.{get_or_from_slice_get, slice_get_within}
-use Rattle.sv_value.specs.declared.values.Val.{Val}
-use Rattle.sv_value.specs.declared.values.Val.TheVariants.{Int}
 use Rattle.sv_app.specs.declared.places.Place.{Place}
 use Rattle.sv_app.specs.declared.requests.InitRow.{InitRow}
-use Rattle.sv_app.specs.declared.requests.Request.{Request}
 use Rattle.sv_app.specs.Tables.{Row, Tables}
 use Rattle.sv_core.specs.Document.{Document}
 use Rattle.sv_core.specs.declared.ops.RowEffect.{RowEffect}
 use Rattle.sv_core.specs.declared.ops.Op.{Op}
-use Rattle.sv_core.specs.Cut.{Cut, Medium, held}
+use Rattle.sv_core.specs.Cut.{Medium, held}
 use Rattle.sv_core.specs.Applied.{place_of}
-use Rattle.sv_core.specs.TablesOfCut.{is_place, init_place, init_count, initial, gained_in, named_to, tables_of}
-use Rattle.sv_core.specs.Run.{run_of, place_asked}
+use Rattle.sv_core.specs.TablesOfCut.{is_place, init_place, init_count, initial, gained_in, named_to}
 use Rattle.sv_core.specs.Sound.{Sound, IsInitRow}
 use Rattle.sv_core.specs.History.{History, cut_of, published, tables_at, answers}
 use Rattle.sv_core.specs.Legal.{Legal}
@@ -92,10 +88,12 @@ row_within doc h s sound legal p row stands = from (among p places) refl
 
 -- an initial row stays kept
 pub row_stays : (doc : Document) (h : History) (s : ℕ) (p : Place) → among p (init_places doc) ≡ true → (row : Row) × (get (tables_at doc h s) p ≡ Some row)
-row_stays doc h s p known = (record { count = initial p doc.init +ℤ gained_in p (held (published doc h) (cut_of h s)) },
-    get-tables_by (init_places doc ++ named_to (held (published doc h) (cut_of h s)) 9) (λ x. record { count = initial x doc.init +ℤ gained_in x (held (published doc h) (cut_of h s)) }) p
-    ∙ ap (λ b. if b then Some (record { count = initial p doc.init +ℤ gained_in p (held (published doc h) (cut_of h s)) }) else None)
-        (among-append p (init_places doc) (named_to (held (published doc h) (cut_of h s)) 9) ∙ ap (λ b. b || among p (named_to (held (published doc h) (cut_of h s)) 9)) known))
+row_stays doc h s p known = (
+  record { count = initial p doc.init +ℤ gained_in p (held (published doc h) (cut_of h s)) },
+  get-tables_by (init_places doc ++ named_to (held (published doc h) (cut_of h s)) 9) (λ x. record { count = initial x doc.init +ℤ gained_in x (held (published doc h) (cut_of h s)) }) p
+      ∙ ap (λ b. if b then Some (record { count = initial p doc.init +ℤ gained_in p (held (published doc h) (cut_of h s)) }) else None)
+      (among-append p (init_places doc) (named_to (held (published doc h) (cut_of h s)) 9) ∙ ap (λ b. b || among p (named_to (held (published doc h) (cut_of h s)) 9)) known),
+)
 
 pub one_taken : (t : Tables) (e : RowEffect) (es : List RowEffect) → es ≡ e ∷ [] → HasRow (get t (place_of e)) → CanTake t es
 one_taken t e es only has = subst (CanTake t) (sym only) (has, tt)

@@ -1,31 +1,27 @@
 -- A world's fields stay those of its history when an entry is added.
-use Rattle.std.proofs.Common.{◌≡◌, ◌≢◌, ◌⊎◌, inl, inr, ℕ, zero, suc, ◌+◌, ◌*◌, ◌-◌, ◌<◌, ◌≤◌, ◌==◌, nat_lt, if◌then◌else◌, Bool, true, false, List, [], ◌∷◌, ◌++◌, length, take, drop, set, get_or, Option, Some, None, slice_get, refl, sym, ap, subst, ◌∙◌, arith, reverse, map, Vec, Global}
+use Rattle.std.proofs.Common.{◌≡◌, ◌⊎◌, inl, inr, ℕ, zero, suc, ◌*◌, ◌-◌, ◌<◌, ◌≤◌, nat_lt, if◌then◌else◌, Bool, true, false, List, [], ◌∷◌, ◌++◌, length, set, get_or, Option, Some, None, slice_get, refl, sym, ap, subst, ◌∙◌, arith, reverse, map, Vec, Global}
 use Rattle.std.specs.Option.{option_map}
 use Rattle.std.proofs.lemmas.Bool.Decides.{nat_tests}
-use Rattle.std.proofs.lemmas.Bool.{cases_eq}
 use Rattle.std.proofs.lemmas.List.{nil_from_length, reverse-append}
 use Rattle.std.proofs.lemmas.Option.{slice_get_within, slice_get-get_or, slice_get_past}
 use Rattle.sv_value.specs.declared.packets.Packet.{Packet}
 use Rattle.sv_value.specs.declared.packets.Packet.TheVariants.{Blue, Red}
 use Rattle.sv_value.specs.Cuts.{counts, more, Covers, origin, number}
-use Rattle.sv_app.specs.declared.requests.Request.{Request}
-use Rattle.sv_app.specs.Tables.{Tables}
 use Rattle.sv_core.specs.Document.{Document}
 use Rattle.sv_core.specs.declared.ops.Op.{Op}
 use Rattle.sv_core.specs.declared.sites.SiteState.{SiteState}
-use Rattle.sv_core.specs.declared.entries.Delivered.{Delivered}
-use Rattle.sv_core.specs.declared.entries.Delivered.TheVariants.{Applied, Duplicate, Early, Unknown}
+use Rattle.sv_core.specs.declared.entries.Delivered.TheVariants.{Applied, Duplicate, Unknown}
 use Rattle.sv_core.specs.declared.entries.Entry.{Entry}
-use Rattle.sv_core.specs.declared.entries.Entry.TheVariants.{Answer, Apply}
+use Rattle.sv_core.specs.declared.entries.Entry.TheVariants.{Apply}
 use Rattle.sv_core.specs.Cut.{Cut}
-use Rattle.sv_core.specs.Applied.{applied, with_changes}
+use Rattle.sv_core.specs.Applied.{with_changes}
 use Rattle.sv_core.specs.Sound.{Sound}
-use Rattle.sv_core.specs.History.{History, cut_of, published, tables_at, answers, answered}
-use Rattle.sv_core.specs.Legal.{Legal, IsNext, IsApply}
+use Rattle.sv_core.specs.History.{History, cut_of, published, answers}
+use Rattle.sv_core.specs.Legal.{Legal, IsApply}
 use Rattle.sv_core.specs.World.{origins, first_short, first_missing, packet_at, by_missing, judged_op, delivered_op, delivered}
 use Rattle.sv_core.specs.WorldState.{listed, Stands, Keeps}
 use Rattle.sv_core.proofs.CutLaws.{order}
-use Rattle.sv_core.proofs.HistoryLaws.{within, few, IsOrigin}
+use Rattle.sv_core.proofs.HistoryLaws.{within, few}
 use Rattle.sv_core.proofs.BirthLaws.{Birth, birth}
 use Rattle.sv_core.proofs.RoomLaws.{small_origin, length_few, published_few}
 use Rattle.sv_core.specs.Rows.{CanTake}

@@ -2,6 +2,7 @@ pub mod Applied
 pub mod Cut
 pub mod Document
 pub mod History
+pub mod Laws
 pub mod Legal
 pub mod Rows
 pub mod Run

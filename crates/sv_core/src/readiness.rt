@@ -3,10 +3,9 @@ ghost use Rattle.sv_value.specs.Cuts.{counts, number};
 ghost use Rattle.sv_core.specs.World.{first_missing, packet_at, judged_op};
 ghost use Rattle.sv_core.specs.WorldState.{listed};
 
-use sv_value::{Cut, Packet, Site};
-
 use crate::entries::Delivered;
 use crate::ops::Op;
+use sv_value::{Cut, Packet, Site};
 
 /// The blue packet of this number of the site at this place.
 fn blue_at(place: usize, seq: u32) -> Packet

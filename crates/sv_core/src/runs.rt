@@ -2,14 +2,12 @@ ghost use Rattle.std.specs.Prelude.{◌≡◌, ◌+ℤ◌, ◌&&◌, [], ◌∷�
 ghost use Rattle.sv_core.specs.Run.{first_arg, second_arg, place_asked, change_asked, fits64, ends, run_at, run_of};
 ghost use Rattle.sv_core.specs.Rows.{row_of};
 
-use std::alloc::Global;
-
-use sv_app::{Arg, Place, Request};
-use sv_value::{Key, List, NoMemory, Val};
-
 use crate::entries::Outcome;
 use crate::ops::RowEffect;
 use crate::rows::{KeptRow, Rows};
+use std::alloc::Global;
+use sv_app::{Arg, Place, Request};
+use sv_value::{Key, List, NoMemory, Val};
 
 /// What a run gives: its outcome, and its changes in order, none where it isn't done.
 #[derive(Debug, Drop)]

@@ -3,10 +3,9 @@ ghost use Rattle.sv_value.specs.Cuts.{counts, more, origin};
 ghost use Rattle.sv_core.specs.Applied.{with_changes};
 ghost use Rattle.sv_core.specs.Rows.{CanTake};
 
-use sv_value::{Cut, NoMemory, Packet};
-
 use crate::ops::{Op, RowEffect};
 use crate::rows::Rows;
+use sv_value::{Cut, NoMemory, Packet};
 
 /// What one site has: its cut, and the rows that the operations of the cut give.
 #[derive(Debug, Drop)]
@@ -38,7 +37,12 @@ impl SiteState {
     }
 
     /// Publishes an operation of the site under the packet, and brings it to the site itself.
-    pub fn publish(&mut self, published: &mut Vec<Op>, packet: &Packet, op: Op) -> Result<(), NoMemory>
+    pub fn publish(
+        &mut self,
+        published: &mut Vec<Op>,
+        packet: &Packet,
+        op: Op,
+    ) -> Result<(), NoMemory>
         requires room { counts self.old.cut (origin packet.now) < 4294967295 }
         requires rows { CanTake self.old.rows op.effects }
         ensures cut { OnOk result ((o : ℕ) → counts self.new.cut o ≡ more (counts self.old.cut) (origin packet.now) o) }

@@ -3,13 +3,6 @@ ghost use Rattle.std.specs.FinMap.{entries};
 ghost use Rattle.sv_value.specs.Cuts.{counts};
 ghost use Rattle.sv_core.specs.WorldState.{AreFresh};
 
-use std::alloc::Global;
-use std::marker::Model;
-use std::sync::Arc;
-
-use sv_app::Request;
-use sv_value::{Cut, List, NoMemory, Packet, Site};
-
 use crate::docs::Doc;
 use crate::entries::{Delivered, Entry, Outcome, Reply};
 use crate::ops::{Op, RowEffect};
@@ -17,6 +10,11 @@ use crate::readiness::{judge, list_of, number};
 use crate::rows::{KeptRow, Rows};
 use crate::runs::{Ran, run};
 use crate::sites::SiteState;
+use std::alloc::Global;
+use std::marker::Model;
+use std::sync::Arc;
+use sv_app::Request;
+use sv_value::{Cut, List, NoMemory, Packet, Site};
 
 /// The sites of a document, what they published, and all that happened to them. Contracts see its document and its
 /// history, which is legal.
@@ -186,7 +184,11 @@ impl World {
         let ops = list_of(&self.published, packet);
         let place = number(packet);
         if place < ops.len() {
-            judge(&self.sites[site.number() as usize - 1].cut, packet, &ops[place])
+            judge(
+                &self.sites[site.number() as usize - 1].cut,
+                packet,
+                &ops[place],
+            )
         } else {
             Delivered::Unknown {
                 published: ops.len() as u32,
@@ -200,7 +202,10 @@ impl World {
         ensures { self.new ≡ record self.old { history = Entry.Apply site packet.now ∷ self.old.history } }
     {
         let place = site.number() as usize - 1;
-        match self.history.push(Entry::Apply { site, packet: *packet }) {
+        match self.history.push(Entry::Apply {
+            site,
+            packet: *packet,
+        }) {
             Ok(()) => {
                 let op = &list_of(&self.published, packet)[number(packet)];
                 self.sites[place].bring(packet, op.effects.items());
@@ -240,7 +245,14 @@ impl World {
     }
 
     /// The next answer of the session, at this site.
-    fn answer(&self, session: u16, site: Site, request: Request, outcome: Outcome, packet: Option<Packet>) -> Entry
+    fn answer(
+        &self,
+        session: u16,
+        site: Site,
+        request: Request,
+        outcome: Outcome,
+        packet: Option<Packet>,
+    ) -> Entry
         requires from { 1 ≤ session }
         requires to { session ≤ 64 }
         ensures { result ≡ Entry.Answer session (answered self.now.history session) request site (length self.now.history) (Reply.Ran outcome) packet }

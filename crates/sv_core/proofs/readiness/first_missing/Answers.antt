@@ -1,4 +1,4 @@
-use Rattle.std.proofs.Common.{◌<◌, ◌≤◌, ◌≡◌, suc, ◌∙◌, arith}
+use Rattle.std.proofs.Common.{◌∙◌, arith}
 use Rattle.sv_value.specs.Cuts.{counts}
 use Rattle.sv_core.proofs.MissingLaws.{short_next, missing_here, missing_red, missing_none}
 use Rattle.sv_core.proofs.readiness.first_missing.Goals as goal

@@ -1,4 +1,4 @@
-use Rattle.std.proofs.Common.{◌≡◌, true, [], Some, None, subst}
+use Rattle.std.proofs.Common.{◌≡◌, true, [], Some, None}
 use Rattle.sv_core.proofs.AskLaws.{next_of_parts, publishes_of_parts, packet_some, packet_none}
 use Rattle.sv_core.proofs.world.World.ask.Goals as goal
 

@@ -1,9 +1,9 @@
-use Rattle.std.proofs.Common.{◌≡◌, ◌<◌, ◌≤◌, ◌+◌, ◌*◌, ◌-◌, ℕ, List, ◌∷◌, length, get_or, set, reverse, map, sym, ap, subst, ◌∙◌, arith}
+use Rattle.std.proofs.Common.{◌<◌, ◌≤◌, ◌+◌, ◌*◌, ◌-◌, ℕ, List, ◌∷◌, length, get_or, set, reverse, map, sym, ap, subst, ◌∙◌, arith}
 use Rattle.std.proofs.lemmas.List.{length-reverse}
 use Rattle.std.specs.Vec.{vec_capacity}
 use Rattle.sv_core.specs.Document.{document_of}
 use Rattle.sv_core.specs.History.{History, answered}
-use Rattle.sv_core.specs.Legal.{Legal, IsNext}
+use Rattle.sv_core.specs.Legal.{IsNext}
 use Rattle.sv_core.specs.WorldState.{Keeps}
 use Rattle.sv_core.proofs.TakeLaws.{sized}
 use Rattle.sv_core.proofs.RoomLaws.{length_few}
@@ -47,6 +47,6 @@ invariant_of-self c =
     let counts : List ℕ = set c.self.inside.answered (c.args.session - 1) (get_or c.self.inside.answered (c.args.session - 1) 0 + 1) in
     let next : IsNext doc h c.args.entry = subst (λ p. IsNext p.doc p.history c.args.entry) (sym c.self.view_is) c.requires.next in
     let kept : Keeps doc (c.args.entry ∷ h) lists sites counts (vec_capacity c.self.inside.history) =
-        keeps_reply doc h lists sites c.self.inside.answered (vec_capacity c.self.inside.history) c.args.session c.args.entry c.self.told k next c.requires.quiet in
+    keeps_reply doc h lists sites c.self.inside.answered (vec_capacity c.self.inside.history) c.args.session c.args.entry c.self.told k next c.requires.quiet in
     subst (λ g. Keeps doc g lists sites counts (vec_capacity c.push.new.self)) (sym (ap reverse c.in-Ok.ensures.items ∙ reverse_push c.self.inside.history.items c.args.entry))
     (keeps_room doc (c.args.entry ∷ h) lists sites counts (vec_capacity c.self.inside.history) (vec_capacity c.push.new.self) c.in-Ok.ensures.capacity kept)

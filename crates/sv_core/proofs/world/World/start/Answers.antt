@@ -11,7 +11,7 @@ use Rattle.sv_core.proofs.world.World.start.Goals as goal
 pub invariant_of-result : goal.invariant_of-result
 invariant_of-result c =
     let rows : c.in_ok-rows.rows ≡ tables_held c.args.doc.value.init empty =
-        c.in_ok-rows.ensures ∙ ap (λ init. tables_held init empty) c.items.ensures ∙ ap (λ d. tables_held d.init empty) c.deref.ensures in
+    c.in_ok-rows.ensures ∙ ap (λ init. tables_held init empty) c.items.ensures ∙ ap (λ d. tables_held d.init empty) c.deref.ensures in
     let asks = ap (λ d. d.asks) c.deref-2.ensures in
     let room : 9 * c.args.doc.value.asks ≤ vec_capacity c.in_ok-history.history = omega (arith, asks, c.in_ok-history.ensures.exact) in
     keeps_start (document_of c.args.doc.value) c.in_ok-history.history.items _ c.in_ok-sites.sites.items _ _ c.requires c.in_ok-history.ensures.items
