@@ -1,5 +1,7 @@
+pub mod DistinctLaws
 pub mod KindLaws
 pub mod LeafLaws
+pub mod ListLaws
 pub mod ManyLaws
 pub mod PartLaws
 pub mod PlaceLaws

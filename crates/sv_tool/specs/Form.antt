@@ -1,7 +1,8 @@
 -- What a document of the first form says: the name of its table, the names of its transactions, its initial rows, how many sites it has, and its steps.
-use Rattle.std.specs.Prelude.{ℕ, zero, suc, List, [], ◌∷◌, length}
+use Rattle.std.specs.Prelude.{◌≡◌, ℕ, zero, suc, List, [], ◌∷◌, map, length}
 use Rattle.sv_app.specs.declared.requests.InitRow.{InitRow}
-use Rattle.sv_core.specs.Document.{Document}
+use Rattle.sv_core.specs.Document.{Document, document_of}
+use Rattle.sv_tool.specs.declared.steps.Replay.{Replay}
 use Rattle.sv_tool.specs.declared.steps.Step.{Step}
 use Rattle.sv_tool.specs.declared.steps.Step.TheVariants.{Ask, Deliver, Show}
 
@@ -34,3 +35,10 @@ document_of_form form = record {
   sites = form.sites;
   asks = asks_in form.steps;
 }
+
+-- a replay of this document, of its names and of its steps
+pub record Describes (replay : Replay) (form : Form) : Type 0 where
+  pub document : document_of replay.doc ≡ document_of_form form
+  pub tables : map (λ table. table.name.name) replay.doc.app.tables.items ≡ form.table ∷ []
+  pub txns : map (λ txn. txn.name.name) replay.doc.app.txns.items ≡ form.txns
+  pub steps : replay.steps ≡ form.steps

@@ -1,3 +1,4 @@
 pub mod Form
 pub mod Grammar
 pub mod Reading
+pub mod Replays

@@ -4,8 +4,10 @@
 mod reader_checks;
 mod reader_names;
 mod reader_parts;
+mod reader_replays;
 mod reader_steps;
 mod readers;
 mod steps;
 
+pub use reader_replays::read_replay;
 pub use steps::{Replay, Step};
