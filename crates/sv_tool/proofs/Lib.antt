@@ -1,4 +1,5 @@
 pub mod DistinctLaws
+pub mod FormLaws
 pub mod KindLaws
 pub mod LeafLaws
 pub mod ListLaws
