@@ -22,10 +22,8 @@ use Rattle.sv_tool.specs.ReplayText.{steps_text, replay_history}
 use Rattle.sv_tool.specs.ReadDocument.{table_name, IsReplayIn, said_by}
 use Rattle.sv_tool.specs.CanMake.{CanMakeAll}
 use Rattle.sv_tool.specs.Answer.{at_the_front, form_among, form_in, form_answer}
+use Rattle.sv_tool.proofs.FormLaws.{form_read}
 use Rattle.sv_tool.proofs.FitLaws.{form_sound, form_fits, steps_legal}
-
-is_form : (tokens : List Token) (form : Form) → form_of tokens ≡ Some form → IsForm tokens form
-is_form tokens form e = ?
 
 -- tokens of the form
 record IsFormOfSome (form : Form) : Type 0 where
@@ -37,7 +35,7 @@ found None refusal form e = absurd cc
 found (Some f) refusal form e = cc
 
 among : (read : Result (List Token) Fault) (form : Form) → form_among read ≡ Ok form → IsFormOfSome form
-among (Ok tokens) form e = record { tokens = tokens; is = is_form tokens form (found (form_of tokens) (at_the_front Syntax) form e) }
+among (Ok tokens) form e = record { tokens = tokens; is = form_read tokens form (found (form_of tokens) (at_the_front Syntax) form e) }
 among (Err fault) form e = absurd cc
 
 pub sound_of : (bytes : List ℕ) (replay : Replay) → IsReplayIn (form_among (lexed bytes)) replay → Sound (document_of replay.doc)
@@ -71,7 +69,7 @@ history_legal bytes = by (lexed bytes)
     of : (tokens : List Token) (o : Option Form) → form_of tokens ≡ o → IfOk (ok_or o (at_the_front Syntax)) (λ form. Legal (document_of_form form) (replay_history form))
     of tokens None e = tt
     of tokens (Some form) e =
-        let is : IsForm tokens form = is_form tokens form e in
+        let is : IsForm tokens form = form_read tokens form e in
         steps_legal (document_of_form form) [] form.steps (form_sound tokens form is) tt (form_fits tokens form is)
 
     by : (read : Result (List Token) Fault) → IfOk (form_among read) (λ form. Legal (document_of_form form) (replay_history form))

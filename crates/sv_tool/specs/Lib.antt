@@ -6,4 +6,5 @@ pub mod Lines
 pub mod ReadDocument
 pub mod Reading
 pub mod ReplayText
+pub mod Replays
 pub mod Statuses

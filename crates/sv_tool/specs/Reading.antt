@@ -23,6 +23,7 @@ use Rattle.sv_app.specs.declared.requests.Request.{Request}
 use Rattle.sv_core.specs.Run.{fits64, key_of}
 use Rattle.sv_core.specs.TablesOfCut.{is_place, init_place}
 use Rattle.sv_tool.specs.declared.readers.Pair.{Pair}
+use Rattle.sv_tool.specs.declared.readers.Parts.{Parts}
 use Rattle.sv_tool.specs.declared.readers.Schema.{Schema}
 use Rattle.sv_tool.specs.declared.steps.Step.{Step}
 use Rattle.sv_tool.specs.declared.steps.Step.TheVariants.{Ask, Deliver, Show}
@@ -254,14 +255,6 @@ has_place row rows = list_any (λ other. is_same_place row other) rows
 abbrev pub places_differ : List InitRow → Bool
 places_differ [] = true
 places_differ (row ∷ rows) = not (has_place row rows) && places_differ rows
-
--- what a document of the first form holds, in order
-pub record Parts : Type 0 where
-  pub table : Ident
-  pub txns : List Txn
-  pub init : List InitRow
-  pub sites : ℕ
-  pub steps : List Step
 
 abbrev pub is_empty : {A : Type 0} → List A → Bool
 is_empty [] = true

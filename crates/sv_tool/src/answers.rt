@@ -14,7 +14,7 @@ ghost use Rattle.sv_tool.specs.CanMake.{CanMakeAll};
 ghost use Rattle.sv_tool.specs.declared.statuses.Status.TheVariants.{Done, Refused};
 ghost use Rattle.sv_tool.specs.Answer.{at_the_front, answer_to, form_answer, form_among};
 
-use crate::reader_stub::read_replay;
+use crate::reader_replays::read_replay;
 use crate::replays::make_steps;
 use crate::statuses::Status;
 use crate::steps::Replay;

@@ -1,4 +1,4 @@
-//! Reads documents and writes what comes of them.
+//! Reads documents, replays them and writes what comes of them.
 #![tactic(auto)]
 
 mod answers;
@@ -6,8 +6,8 @@ mod laws;
 mod reader_checks;
 mod reader_names;
 mod reader_parts;
+mod reader_replays;
 mod reader_steps;
-mod reader_stub;
 mod readers;
 mod replays;
 mod shows;
@@ -18,6 +18,10 @@ mod tops;
 mod words;
 
 pub use laws::rows_are_listed;
+pub use reader_replays::read_replay;
 pub use steps::{Replay, Step};
 pub use tops::{plain, top};
 pub use words::Words;
+
+#[cfg(test)]
+mod tests;

@@ -3,15 +3,26 @@ ghost use Rattle.sv_app.specs.declared.refusals.Stop.TheVariants.{Refused};
 ghost use Rattle.sv_tool.specs.Reading.{at_start, is_mark, Gives, nat_within, fitting};
 
 use crate::reader_names::is_reserved;
-use sv_app::{Code, Ident, Refusal, Stop};
+use crate::steps::Step;
+use sv_app::{Code, Ident, InitRow, Refusal, Stop, Txn};
 use sv_lex::{Mark, Token, TokenKind};
-use sv_value::{Name, Spot};
+use sv_value::{List, Name, Spot};
 
 /// The names of a table and its counter.
 #[derive(Clone, Copy, Debug)]
 pub struct Schema {
     pub table: Ident,
     pub counter: Name,
+}
+
+/// What a document holds, in order.
+#[derive(Debug, Drop)]
+pub struct Parts {
+    pub table: Ident,
+    pub txns: List<Txn>,
+    pub init: List<InitRow>,
+    pub sites: u8,
+    pub steps: List<Step>,
 }
 
 /// The two values of a row or a call.
