@@ -6,4 +6,5 @@ pub mod ListLaws
 pub mod ManyLaws
 pub mod PartLaws
 pub mod PlaceLaws
+pub mod ReplayLaws
 pub mod StepLaws
