@@ -1,10 +1,12 @@
 -- What the reader answers, by the parts that it read.
-use Rattle.std.proofs.Common.{◌≡◌, ◌∙◌, ℕ, ℤ, ◌<◌, ◌≤◌, Bool, true, false, List, [], ◌∷◌, length, Option, Some, None, Ok, Err, refl, sym, ap, subst, cond, All, IsTrue}
+use Rattle.std.proofs.Common.{◌≡◌, ◌∙◌, ℕ, ℤ, ◌<◌, ◌≤◌, Bool, true, false, List, [], ◌∷◌, map, length, Option, Some, None, Ok, Err, refl, sym, ap, subst, cond, All, IsTrue}
 use Rattle.std.proofs.lemmas.List.Elements.{All-nil, All-cons}
 use Rattle.std.proofs.lemmas.Option.{slice_get_within}
 use Rattle.sv_value.specs.declared.packets.Packet.TheVariants.{Blue, Red}
 use Rattle.sv_lex.specs.declared.tokens.Token.{Token}
 use Rattle.sv_lex.specs.declared.tokens.TokenKind.{TokenKind}
+use Rattle.sv_app.specs.declared.apps.Table.{Table}
+use Rattle.sv_app.specs.declared.apps.Txn.{Txn}
 use Rattle.sv_app.specs.declared.refusals.Stop.{Stop}
 use Rattle.sv_app.specs.declared.refusals.Stop.TheVariants.{Refused, NoMemory}
 use Rattle.sv_app.specs.declared.requests.Arg.{Arg}
@@ -18,11 +20,11 @@ use Rattle.sv_tool.specs.declared.readers.Parts.{Parts}
 use Rattle.sv_tool.specs.declared.steps.Replay.{Replay}
 use Rattle.sv_tool.specs.declared.steps.Step.{Step}
 use Rattle.sv_tool.specs.declared.steps.Step.TheVariants.{Ask, Deliver, Show}
-use Rattle.sv_tool.specs.Form.{Form, Describes, document_of_form}
+use Rattle.sv_tool.specs.Form.{Form, Describes, document_of_form, CountFrom, IsNumbered}
 use Rattle.sv_tool.specs.Grammar.{IsVal, Plain, Signed, AreMany, IsRow, IsAsk, IsDeliver, IsShow, IsStep, IsForm}
-use Rattle.sv_tool.specs.Reading.{Reads, at_start, is_whole, parts_at, form_of_parts, whole_form, form_of}
+use Rattle.sv_tool.specs.Reading.{Reads, at_start, HasApp, is_whole, parts_at, form_of_parts, whole_form, form_of}
 use Rattle.sv_tool.specs.Replays.{StepFits, StepsFit, IsReplay, Answers}
-use Rattle.sv_tool.proofs.FormLaws.{form_read, form_there}
+use Rattle.sv_tool.proofs.FormLaws.{ReadParts, parts_read, form_read, form_there}
 
 val_fits : {part : List TokenKind} {z : ℤ} → IsVal part z → IsTrue (fits64 z)
 val_fits (Plain n fits) = fits
@@ -73,10 +75,16 @@ steps_fit : (form : Form) (tokens : List Token) (steps : List Step) → AreMany 
 steps_fit form tokens [] are = tt
 steps_fit form tokens (step ∷ steps) are = (step_fits form are.front step are.first, steps_fit form are.others steps are.then)
 
-pub parts_replay : (tokens : List Token) (parts : Parts) (rest : List Token) (replay : Replay) → parts_at tokens ≡ Some (parts, rest) → is_whole rest parts ≡ true → Describes replay (form_of_parts parts)
+app_numbered : (tokens : List Token) (parts : Parts) (rest : List Token) (replay : Replay) → ReadParts tokens parts rest → HasApp replay parts → IsNumbered replay
+app_numbered tokens parts rest replay r app = record {
+  tables = subst (λ (l : List Table). CountFrom 0 (map (λ table. table.name.num) l)) (sym app.tables) (r.table_numbered, tt);
+  txns = subst (λ (l : List Txn). CountFrom 0 (map (λ txn. txn.name.num) l)) (sym app.txns) r.txns_numbered;
+}
+
+pub parts_replay : (tokens : List Token) (parts : Parts) (rest : List Token) (replay : Replay) → parts_at tokens ≡ Some (parts, rest) → is_whole rest parts ≡ true → Describes replay (form_of_parts parts) → HasApp replay parts
   → IsReplay tokens replay
 unfolding form_of
-parts_replay tokens parts rest replay is whole d =
+parts_replay tokens parts rest replay is whole d app =
     let read : form_of tokens ≡ Some (form_of_parts parts) = ap whole_form is ∙ ap (λ b. cond b (Some (form_of_parts parts)) None) whole in
     let written : IsForm tokens (form_of_parts parts) = form_read tokens (form_of_parts parts) read in
     record {
@@ -84,6 +92,7 @@ parts_replay tokens parts rest replay is whole d =
       written = written;
       read = read;
       describes = d;
+      numbered = app_numbered tokens parts rest replay (parts_read tokens parts rest is) app;
       sound = subst Sound (sym d.document) (form_sound tokens (form_of_parts parts) written);
       fit = subst (λ (doc : Document). StepsFit doc replay.steps) (sym d.document)
         (subst (λ (l : List Step). StepsFit (document_of_form (form_of_parts parts)) l) (sym d.steps) (steps_fit (form_of_parts parts) written.step_part (form_of_parts parts).steps written.steps));

@@ -2,6 +2,7 @@
 #![tactic(auto)]
 
 mod reader_checks;
+mod reader_laws;
 mod reader_names;
 mod reader_parts;
 mod reader_replays;
@@ -9,5 +10,6 @@ mod reader_steps;
 mod readers;
 mod steps;
 
+pub use reader_laws::reading_is_grammar;
 pub use reader_replays::read_replay;
 pub use steps::{Replay, Step};

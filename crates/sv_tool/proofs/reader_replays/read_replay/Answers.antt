@@ -14,4 +14,4 @@ returns-then-not-is_whole c =
 
 pub returns : goal.returns
 returns c =
-    parts_replay c.args.tokens.now c.in_ok-parts.parts c.parts.new.self.rest.now c.in_ok-replay_of.field-0 c.in_ok-parts.ensures (sym c.is_whole.ensures ∙ c.if-not-is_whole.false) c.in_ok-replay_of.ensures
+    parts_replay c.args.tokens.now c.in_ok-parts.parts c.parts.new.self.rest.now c.in_ok-replay_of.field-0 c.in_ok-parts.ensures (sym c.is_whole.ensures ∙ c.if-not-is_whole.false) c.in_ok-replay_of.ensures.describes c.in_ok-replay_of.ensures.app
