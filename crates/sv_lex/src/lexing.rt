@@ -19,7 +19,8 @@ pub fn lex(alloc: Global, bytes: &[u8]) -> Result<Vec<Token>, LexStop>
     // before it stand only whole tokens, white space and comments
     ensures first { IfErr result (λ stop. IfSome (fault_of stop) (λ fault. IsFirst bytes.now fault)) }
 {
-    let _kinds: Option<TokenKind> = None;
+    // The check wants to see the type that is inside a token.
+    let _kind: Option<TokenKind> = None;
     let mut lexer = Lexer::new(bytes);
     let mut tokens = Vec::new(alloc);
     while let Some(token) = lexer.next_token()? {
