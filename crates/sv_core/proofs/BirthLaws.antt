@@ -1,14 +1,12 @@
 -- Where a published operation came from: it is made by a run on its site's tables, on its site's cut.
-use Rattle.std.proofs.Common.{◌≡◌, ◌⊎◌, inl, inr, ℕ, zero, suc, ◌<◌, ◌≤◌, ◌||◌, ◌&&◌, if◌then◌else◌, Bool, true, false, List, [], ◌∷◌, ◌++◌, length, take, drop, Option, Some, None, slice_get, refl, sym, ap, subst, ◌∙◌, arith}
-use Rattle.std.specs.Prelude.{ℤ, ◌+ℤ◌, map, IsTrue}
+use Rattle.std.proofs.Common.{◌≡◌, ◌⊎◌, inl, inr, ℕ, zero, suc, ◌≤◌, ◌||◌, ◌&&◌, if◌then◌else◌, Bool, true, false, List, [], ◌∷◌, ◌++◌, length, take, Option, Some, None, slice_get, refl, sym, ap, subst, ◌∙◌}
+use Rattle.std.specs.Prelude.{◌+ℤ◌, map, IsTrue}
 use Rattle.std.specs.FinMap.{get}
 use Rattle.sv_value.specs.declared.packets.Packet.{Packet}
-use Rattle.sv_value.specs.declared.packets.Packet.TheVariants.{Blue, Red}
 use Rattle.sv_value.specs.Cuts.{counts, origin}
 use Rattle.sv_app.specs.declared.places.Place.{Place}
 use Rattle.sv_app.specs.declared.requests.Request.{Request}
-use Rattle.sv_app.specs.declared.requests.InitRow.{InitRow}
-use Rattle.sv_app.specs.Tables.{Row, Tables}
+use Rattle.sv_app.specs.Tables.{Row}
 use Rattle.sv_core.specs.Document.{Document}
 use Rattle.sv_core.specs.declared.ops.RowEffect.{RowEffect}
 use Rattle.sv_core.specs.declared.ops.Op.{Op}
@@ -20,12 +18,11 @@ use Rattle.sv_core.specs.Applied.{place_of}
 use Rattle.sv_core.specs.TablesOfCut.{is_place, init_place, initial, gained_in, named_by, named_to, tables_of}
 use Rattle.sv_core.specs.declared.entries.Outcome.TheVariants.{Done, Range}
 use Rattle.sv_core.specs.declared.runs.Ran.{Ran}
-use Rattle.sv_core.specs.Run.{ends, run_at, run_of, place_asked, second_arg, fits64}
+use Rattle.sv_core.specs.Run.{ends, run_at, run_of, place_asked, change_asked, second_arg, fits64}
 use Rattle.sv_core.specs.History.{History, cut_of, back_to, op_of, news, published, tables_at}
-use Rattle.sv_core.specs.Legal.{Legal, IsAnswer, IsPacket, FitsDoc}
-use Rattle.sv_core.proofs.ListLaws.{get_taken}
+use Rattle.sv_core.specs.Legal.{Legal, IsAnswer, IsPacket}
 use Rattle.sv_core.proofs.MediumLaws.{news_get}
-use Rattle.sv_core.proofs.HistoryLaws.{back_to_now, IsNextBlue, packed, own, counts_cut, few}
+use Rattle.sv_core.proofs.HistoryLaws.{back_to_now, IsNextBlue, packed, own, counts_cut}
 use Rattle.sv_core.proofs.PlaceListLaws.{among, among-append, names}
 use Rattle.sv_core.proofs.TableLaws.{get-tables_by}
 use Rattle.std.proofs.lemmas.Map.Views.{tells_apart}
@@ -39,30 +36,28 @@ abbrev pub init_places : Document → List Place
 init_places doc = map init_place doc.init
 
 -- the one change of a run that changes anything
-pub record OneChange (p : Place) (by : ℤ) (o : Option Row) (changes : List RowEffect) : Type 0 where
+pub record OneChange (request : Request) (o : Option Row) (effects : List RowEffect) : Type 0 where
   pub row : Row
   pub stands : o ≡ Some row
-  pub effect : RowEffect
-  pub only : changes ≡ effect ∷ []
-  pub at : place_of effect ≡ p
-  pub delta : effect.delta ≡ by
+  pub only : effects ≡ change_asked request ∷ []
 
-pub run_one : (doc : Document) (h : History) (site at : ℕ) (p : Place) (by : ℤ) (o : Option Row) (packet : Packet)
-    → IsPacket doc h site at (run_at p by o).effects (Some packet) → OneChange p by o (run_at p by o).effects
-run_one doc h site at p by None packet named = absurd cc
-run_one doc h site at p by (Some row) packet named = split (fits64 row.count && fits64 (row.count +ℤ by)) named
+pub run_one : (doc : Document) (h : History) (site at : ℕ) (request : Request) (o : Option Row) (packet : Packet)
+    → IsPacket doc h site at (run_at request o).effects (Some packet) → OneChange request o (run_at request o).effects
+run_one doc h site at request None packet named = absurd cc
+run_one doc h site at request (Some row) packet named = split (fits64 row.count && fits64 (row.count +ℤ second_arg request.args)) named
   where
     ran : Bool → Ran
-    ran b = if b then record { outcome = Done; effects = record { table = p.table; key = p.key; delta = by } ∷ [] } else ends Range
+    ran b = if b then record { outcome = Done; effects = change_asked request ∷ [] } else ends Range
 
-    split : (b : Bool) → IsPacket doc h site at (ran b).effects (Some packet) → OneChange p by (Some row) (ran b).effects
-    split true named = record { row = row; stands = refl; effect = record { table = p.table; key = p.key; delta = by }; only = refl; at = refl; delta = refl }
+    split : (b : Bool) → IsPacket doc h site at (ran b).effects (Some packet) → OneChange request (Some row) (ran b).effects
+    split true named = record { row = row; stands = refl; only = refl }
     split false named = absurd cc
 
 -- what is known of a published operation
 pub record Birth (doc : Document) (o q : ℕ) (op : Op) : Type 0 where
   pub site_is : op.site ≡ o
   pub deps_own : counts op.deps o ≡ q
+  pub deps_long : length op.deps.blue ≡ 8
   pub effect : RowEffect
   pub only : op.effects ≡ effect ∷ []
   pub known : among (place_of effect) (init_places doc) ≡ true
@@ -98,7 +93,7 @@ named_to_known doc m (suc n) known p named =
     from (inl before) ih = ih before
     from (inr here) ih = named_known doc (m n) (known n) p here
 
-get_from_take : (k : ℕ) (ops : List Op) (q : ℕ) (op : Op) → slice_get (take k ops) q ≡ Some op → slice_get ops q ≡ Some op
+pub get_from_take : (k : ℕ) (ops : List Op) (q : ℕ) (op : Op) → slice_get (take k ops) q ≡ Some op → slice_get ops q ≡ Some op
 get_from_take zero ops q op e = absurd cc
 get_from_take (suc k) [] q op e = absurd cc
 get_from_take (suc k) (x ∷ ops) zero op e = e
@@ -131,10 +126,11 @@ born doc h session index request site at reply packet some eight legal known a =
   site_is = sym next.origin_is;
   deps_own = (λ i. counts (as_deps (cut_of (now i) site)) (origin packet)) ∙ (λ i. counts_cut doc h some eight legal site i (origin packet)) ∙ (λ i. cut_of h site (next.origin_is i)) ∙ own doc h legal site
       ∙ (λ i. length (published doc h (sym next.origin_is i)));
-  effect = one.effect;
+  deps_long = refl;
+  effect = change_asked request;
   only = ap (λ t. (run_of request t).effects) (sym tables) ∙ one.only;
-  known = subst (λ p. among p (init_places doc) ≡ true) (sym one.at) (row_known doc (published doc h) (cut_of h site) known (place_asked request) one.row (ap (λ t. get t (place_asked request)) here ∙ one.stands));
-  fits = subst (λ n. IsTrue (fits64 n)) (sym one.delta) a.fits.second;
+  known = row_known doc (published doc h) (cut_of h site) known (place_asked request) one.row (ap (λ t. get t (place_asked request)) here ∙ one.stands);
+  fits = a.fits.second;
 }
   where
     next : IsNextBlue doc h site packet
@@ -143,8 +139,8 @@ born doc h session index request site at reply packet some eight legal known a =
     now : back_to at h ≡ h
     now = back_to_now at h a.place
 
-    one : OneChange (place_asked request) (second_arg request.args) (get (tables_at doc (back_to at h) site) (place_asked request)) (run_of request (tables_at doc (back_to at h) site)).effects
-    one = run_one doc h site at (place_asked request) (second_arg request.args) (get (tables_at doc (back_to at h) site) (place_asked request)) packet a.named
+    one : OneChange request (get (tables_at doc (back_to at h) site) (place_asked request)) (run_of request (tables_at doc (back_to at h) site)).effects
+    one = run_one doc h site at request (get (tables_at doc (back_to at h) site) (place_asked request)) packet a.named
 
     here : tables_of doc.init (published doc h) (cut_of h site) ≡ tables_at doc (back_to at h) site
     here = λ i. tables_at doc (sym now i) site
@@ -172,7 +168,7 @@ born_next doc h (Answer session index request site at reply None) o op some eigh
 born_next doc h (Answer session index request site at reply (Some packet)) o op some eight legal all n =
     let both : (origin packet, op_of doc (published doc h) h site at request) ≡ (o, op) = same_pair (origin packet, op_of doc (published doc h) h site at request) (o, op) n in
     subst (λ k. Birth doc k.0 (length (published doc h k.0)) k.1) both
-        (born doc h session index request site at reply packet some eight legal.1 (all_known doc h all) legal.0)
+    (born doc h session index request site at reply packet some eight legal.1 (all_known doc h all) legal.0)
 born_next doc h (Apply site packet) o op some eight legal all n = absurd cc
 
 -- each published operation was made so

@@ -1,24 +1,22 @@
 -- Laws of histories: what grows along them, and what a legal one keeps of counts.
-use Rattle.std.proofs.Common.{◌≡◌, ◌⊎◌, inl, inr, ℕ, zero, suc, ◌<◌, ◌≤◌, ◌-◌, ◌==◌, ◌&&◌, if◌then◌else◌, Bool, true, false, List, [], ◌∷◌, length, take, drop, Option, Some, None, slice_get, refl, sym, ap, subst, ◌∙◌, arith}
+use Rattle.std.proofs.Common.{◌≡◌, ◌⊎◌, inl, inr, ℕ, zero, suc, ◌<◌, ◌≤◌, ◌-◌, ◌==◌, ◌&&◌, if◌then◌else◌, Bool, true, false, List, [], ◌∷◌, length, take, drop, Some, None, slice_get, refl, sym, ◌∙◌, arith}
 use Rattle.std.proofs.lemmas.Bool.{cases_eq}
 use Rattle.std.proofs.lemmas.Bool.Decides.{nat_tests}
-use Rattle.std.specs.Prelude.{◌%◌, ◌+◌}
 use Rattle.sv_value.specs.declared.packets.Packet.{Packet}
 use Rattle.sv_value.specs.declared.packets.Packet.TheVariants.{Blue, Red}
 use Rattle.sv_value.specs.Cuts.{counts, origin, number}
 use Rattle.sv_app.specs.declared.requests.Request.{Request}
-use Rattle.sv_app.specs.Tables.{Tables}
 use Rattle.sv_core.specs.Document.{Document}
 use Rattle.sv_core.specs.declared.ops.RowEffect.{RowEffect}
 use Rattle.sv_core.specs.declared.ops.Op.{Op}
 use Rattle.sv_core.specs.declared.entries.Reply.{Reply}
 use Rattle.sv_core.specs.declared.entries.Entry.{Entry}
 use Rattle.sv_core.specs.declared.entries.Entry.TheVariants.{Answer, Apply}
-use Rattle.sv_core.specs.Cut.{Cut, Medium, as_deps, held, Lies}
+use Rattle.sv_core.specs.Cut.{Cut, as_deps, Lies}
 use Rattle.sv_core.specs.TablesOfCut.{tables_held, tables_of}
 use Rattle.sv_core.specs.Run.{run_of}
-use Rattle.sv_core.specs.History.{History, brings, cut_of, back_to, op_of, news, with_news, published, tables_at}
-use Rattle.sv_core.specs.Legal.{home, Legal, IsNext, IsAnswer, IsApply, IsPacket}
+use Rattle.sv_core.specs.History.{History, brings, cut_of, back_to, op_of, news, published, tables_at}
+use Rattle.sv_core.specs.Legal.{home, Legal, IsAnswer, IsPacket}
 use Rattle.sv_core.proofs.ListLaws.{get_within}
 use Rattle.sv_core.proofs.CutLaws.{counts_as, other_test}
 use Rattle.sv_core.proofs.MediumLaws.{news_stay, news_held, news_long, news_longer}

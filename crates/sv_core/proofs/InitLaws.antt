@@ -1,15 +1,15 @@
 -- The tables of the initial rows, one row more.
-use Rattle.std.proofs.Common.{◌≡◌, ◌⊎◌, inl, inr, ℕ, zero, suc, ◌+◌, ◌<◌, ◌||◌, if◌then◌else◌, cond, Bool, true, false, List, [], ◌∷◌, ◌++◌, length, take, drop, get_or, Option, Some, None, refl, sym, ap, subst, ◌∙◌, arith}
-use Rattle.std.specs.Prelude.{ℤ, pos, ◌+ℤ◌, map, All}
+use Rattle.std.proofs.Common.{◌≡◌, ℕ, zero, suc, ◌+◌, ◌<◌, ◌||◌, if◌then◌else◌, cond, Bool, true, false, List, [], ◌∷◌, ◌++◌, length, take, get_or, Option, Some, None, refl, sym, ap, subst, ◌∙◌, arith}
+use Rattle.std.specs.Prelude.{ℤ, pos, ◌+ℤ◌, map}
 use Rattle.std.proofs.lemmas.Int.{ints}
 use Rattle.std.proofs.lemmas.List.{take_more}
 use Rattle.std.proofs.lemmas.Map.Views.{tells_apart}
 use Rattle.std.specs.FinMap.{get, insert, get-insert, get-empty, same_map, empty as empty_tables}
 use Rattle.sv_app.specs.declared.places.Place.{Place}
 use Rattle.sv_app.specs.declared.requests.InitRow.{InitRow}
-use Rattle.sv_app.specs.Tables.{place_cmp, Row, Tables}
+use Rattle.sv_app.specs.Tables.{place_cmp, Row}
 use Rattle.sv_app.proofs.PlaceLaws.{place_total, exact_places}
-use Rattle.sv_core.specs.Cut.{Medium, empty}
+use Rattle.sv_core.specs.Cut.{empty}
 use Rattle.sv_core.specs.TablesOfCut.{is_place, init_place, init_count, initial, sum_to, gained_in, named_to, tables_held}
 use Rattle.sv_core.specs.Sound.{AreDistinct}
 use Rattle.sv_core.proofs.PlaceListLaws.{among, among-append}
@@ -70,7 +70,7 @@ tables_held-push xs x new = same_map place_total exact_places _ _ (λ q.
   where
     split : (q : Place) (a b : Bool) → among q (map init_place xs) ≡ a → is_place q (init_place x) ≡ b
         → ◌≡◌ {A = Option Row} (if a || b then Some (record { count = if a then initial q xs else if b then init_count x.values else pos 0 }) else None)
-            (cond b (Some (record { count = init_count x.values })) (if a then Some (record { count = initial q xs }) else None))
+        (cond b (Some (record { count = init_count x.values })) (if a then Some (record { count = initial q xs }) else None))
     split q true true at here =
         let is : q ≡ init_place x = tells_apart exact_places q (init_place x) here in
         let twice : among (init_place x) (map init_place xs) ≡ true = subst (λ p. among p (map init_place xs) ≡ true) is at in

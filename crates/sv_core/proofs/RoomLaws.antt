@@ -1,10 +1,8 @@
 -- How long a history and how great a counter can become.
-use Rattle.std.proofs.Common.{◌≡◌, ◌⊎◌, inl, inr, ℕ, zero, suc, ◌<◌, ◌≤◌, ◌+◌, ◌*◌, ◌^◌, ◌==◌, ◌&&◌, if◌then◌else◌, Bool, true, false, List, [], ◌∷◌, ◌++◌, length, Option, Some, None, slice_get, refl, sym, ap, subst, ◌∙◌, arith}
-use Rattle.std.specs.Prelude.{ℤ, pos, neg_ℤ, ◌+ℤ◌, ◌≤ℤ◌, ◌<ℤ◌, int_le, int_lt, IsTrue}
+use Rattle.std.proofs.Common.{◌≡◌, ◌⊎◌, inl, inr, ℕ, zero, suc, ◌<◌, ◌≤◌, ◌+◌, ◌*◌, ◌^◌, ◌==◌, ◌&&◌, if◌then◌else◌, Bool, true, false, List, [], ◌∷◌, length, Some, None, slice_get, refl, sym, ap, subst, ◌∙◌, arith}
+use Rattle.std.specs.Prelude.{ℤ, pos, neg_ℤ, ◌+ℤ◌, int_le, int_lt, IsTrue}
 use Rattle.std.proofs.lemmas.Int.{ints}
 use Rattle.std.proofs.lemmas.Bool.{cases_eq}
-use Rattle.std.proofs.lemmas.Bool.Decides.{nat_tests}
-use Rattle.sv_value.specs.declared.packets.Packet.{Packet}
 use Rattle.sv_value.specs.Cuts.{origin, number}
 use Rattle.sv_app.specs.declared.places.Place.{Place}
 use Rattle.sv_core.specs.Document.{Document}
@@ -12,13 +10,13 @@ use Rattle.sv_core.specs.declared.ops.RowEffect.{RowEffect}
 use Rattle.sv_core.specs.declared.ops.Op.{Op}
 use Rattle.sv_core.specs.declared.entries.Entry.{Entry}
 use Rattle.sv_core.specs.declared.entries.Entry.TheVariants.{Answer, Apply}
-use Rattle.sv_core.specs.Cut.{Cut, Medium}
+use Rattle.sv_core.specs.Cut.{Medium}
 use Rattle.sv_core.specs.Applied.{place_of}
 use Rattle.sv_core.specs.TablesOfCut.{is_place, sum_to, gained, gained_by, gained_in}
 use Rattle.sv_core.specs.Run.{fits64}
 use Rattle.sv_core.specs.Within.{Within}
 use Rattle.sv_core.specs.History.{History, brings, cut_of, op_of, published, answers}
-use Rattle.sv_core.specs.Legal.{home, Legal, IsNext}
+use Rattle.sv_core.specs.Legal.{home, Legal}
 use Rattle.sv_core.proofs.CutLaws.{order, same_test, other_test, both_true}
 use Rattle.sv_core.proofs.ListLaws.{get_within}
 use Rattle.sv_core.proofs.MediumLaws.{news_long}
@@ -101,9 +99,9 @@ stand_few doc (Answer session index request site at reply (Some packet) ∷ h) s
     let lives : site ≡ home doc session = legal.0.lives in
     let small : origin packet < 9 = omega (arith, home_most doc session sized.0, is, lives, sized.1) in
     let rise : stand (published doc (Answer session index request site at reply (Some packet) ∷ h)) ≡ suc (stand (published doc h)) =
-        total-one (λ o. length (published doc h o)) (λ o. length (published doc (Answer session index request site at reply (Some packet) ∷ h) o)) 9 (origin packet) small
-        (rw (news_long (origin packet, op_of doc (published doc h) h site at request) (published doc h) (origin packet), same_test (origin packet) (origin packet) refl) refl)
-        (λ o apart. rw (news_long (origin packet, op_of doc (published doc h) h site at request) (published doc h) o, other_test o (origin packet) apart) refl) in
+    total-one (λ o. length (published doc h o)) (λ o. length (published doc (Answer session index request site at reply (Some packet) ∷ h) o)) 9 (origin packet) small
+    (rw (news_long (origin packet, op_of doc (published doc h) h site at request) (published doc h) (origin packet), same_test (origin packet) (origin packet) refl) refl)
+    (λ o apart. rw (news_long (origin packet, op_of doc (published doc h) h site at request) (published doc h) o, other_test o (origin packet) apart) refl) in
     omega (arith, ih, rise)
 stand_few doc (Apply site packet ∷ h) sized legal = stand_few doc h sized legal.1
 
@@ -133,12 +131,12 @@ long_few doc (Answer session index request site at reply (Some packet) ∷ h) si
     let least : 1 ≤ home doc session = home_least doc session in
     let most : home doc session ≤ doc.sites = home_most doc session sized.0 in
     let rise : had_all (Answer session index request site at reply (Some packet) ∷ h) ≡ suc (had_all h) =
-        had_more h (Answer session index request site at reply (Some packet)) site (origin packet) (omega (arith, lives, least)) (omega (arith, lives, most, sized.1)) (omega (arith, is, lives, most, sized.1)) (λ s x. refl) in
+    had_more h (Answer session index request site at reply (Some packet)) site (origin packet) (omega (arith, lives, least)) (omega (arith, lives, most, sized.1)) (omega (arith, is, lives, most, sized.1)) (λ s x. refl) in
     omega (arith, ih, rise)
 long_few doc (Apply site packet ∷ h) sized legal =
     let ih : length h ≤ answers h + had_all h = long_few doc h sized legal.1 in
     let rise : had_all (Apply site packet ∷ h) ≡ suc (had_all h) =
-        had_more h (Apply site packet) site (origin packet) legal.0.from (omega (arith, legal.0.to, sized.1)) (small_origin doc h (origin packet) (number packet) legal.0.op sized legal.1 legal.0.stands) (λ s x. refl) in
+    had_more h (Apply site packet) site (origin packet) legal.0.from (omega (arith, legal.0.to, sized.1)) (small_origin doc h (origin packet) (number packet) legal.0.op sized legal.1 legal.0.stands) (λ s x. refl) in
     omega (arith, ih, rise)
 
 -- no more requests are answered than the document awaits

@@ -1,5 +1,5 @@
 -- What a search finds among rising rows, and what an edit at that place does to the tables.
-use Rattle.std.proofs.Common.{◌≡◌, ℕ, zero, suc, ◌+◌, ◌<◌, ◌≤◌, Bool, true, false, cond, List, [], ◌∷◌, ◌++◌, length, take, drop, get_or, set, Option, Some, None, slice_get, Result, Ok, Err, IfOk, IfErr, refl, sym, ap, subst, ◌∙◌, arith, pos, ◌⊎◌, inl, inr}
+use Rattle.std.proofs.Common.{◌≡◌, ℕ, zero, suc, ◌<◌, ◌≤◌, Bool, true, false, cond, List, [], ◌∷◌, length, get_or, set, Option, Some, None, slice_get, Result, Ok, Err, IfOk, IfErr, refl, sym, ap, subst, ◌∙◌, arith, pos, ◌⊎◌, inl, inr}
 use Rattle.std.specs.Prelude.{map, unwrap_or}
 use Rattle.sv_core.specs.declared.ops.RowEffect.{RowEffect}
 use Rattle.sv_core.specs.Applied.{place_of, zero_row, changed, with_change}
@@ -25,7 +25,6 @@ use Rattle.std.specs.Prelude.{T, ◌&&◌}
 use Rattle.std.specs.FinMap.{is_sorted}
 use Rattle.std.specs.FinMap.Entries.{below_all}
 use Rattle.sv_core.specs.Rows.{row_of, entry_of, tables_in, AreRising, IsAt, IsGapFor}
-use Rattle.sv_core.proofs.ListLaws.{get_some}
 
 lower_apart : (p q : Place) → place_cmp p q ≡ Less → is_place q p ≡ false
 lower_apart p q less = ap is_eq (place_total.antisymm q p ∙ ap ordering_reverse less)
@@ -262,7 +261,7 @@ sorted_rows (x ∷ rows) rising = both_tests _ _ (below_rows x rows (λ j b get.
 pub entries-tables_in : (rows : List KeptRow) → AreRising rows → map_of.entries (tables_in rows) ≡ map entry_of rows
 entries-tables_in rows rising =
     ap map_of.entries (same_map place_total exact_places (tables_in rows) (map_of.from_sorted (map entry_of rows)) (λ q.
-        get-from_entries place_total (map entry_of rows) q ∙ sym (map_of.get-from_sorted place_cmp (map entry_of rows) q (sorted_rows rows rising))))
+    get-from_entries place_total (map entry_of rows) q ∙ sym (map_of.get-from_sorted place_cmp (map entry_of rows) q (sorted_rows rows rising))))
     ∙ map_of.entries-from_sorted place_cmp (map entry_of rows) (sorted_rows rows rising)
 
 -- the tables after a change of the row that was read

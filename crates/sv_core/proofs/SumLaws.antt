@@ -1,11 +1,9 @@
 -- Sums over origins, of which one part grows.
-use Rattle.std.proofs.Common.{◌≡◌, ◌⊎◌, inl, inr, ℕ, zero, suc, ◌<◌, ◌≤◌, List, [], ◌∷◌, ◌++◌, refl, sym, ap, ◌∙◌, arith}
-use Rattle.std.specs.Prelude.{ℤ, pos, ◌+ℤ◌}
+use Rattle.std.proofs.Common.{◌≡◌, ◌⊎◌, inl, inr, ℕ, zero, suc, ◌<◌, List, [], ◌∷◌, ◌++◌, refl, sym, ap, ◌∙◌, arith}
+use Rattle.std.specs.Prelude.{ℤ, ◌+ℤ◌}
 use Rattle.std.proofs.lemmas.Int.{ints}
 use Rattle.std.proofs.lemmas.Bool.{cases_eq}
-use Rattle.std.proofs.Math.IntN.{+ℤ_assoc}
 use Rattle.sv_app.specs.declared.places.Place.{Place}
-use Rattle.sv_core.specs.declared.ops.RowEffect.{RowEffect}
 use Rattle.sv_core.specs.declared.ops.Op.{Op}
 use Rattle.sv_core.specs.TablesOfCut.{sum_to, gained, gained_by}
 

@@ -2,6 +2,7 @@ pub mod Applied
 pub mod Cut
 pub mod Document
 pub mod History
+pub mod Laws
 pub mod Legal
 pub mod Rows
 pub mod Run
@@ -9,3 +10,4 @@ pub mod Sound
 pub mod TablesOfCut
 pub mod Within
 pub mod World
+pub mod WorldState

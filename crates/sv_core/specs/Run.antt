@@ -36,12 +36,14 @@ place_asked request = record { table = 0; key = key_of (first_arg request.args) 
 abbrev pub fits64 : ℤ → Bool
 fits64 n = int_le (neg_ℤ (pos (2 ^ 63))) n && int_lt n (pos (2 ^ 63))
 
-abbrev pub run_at : Place → ℤ → Option Row → Ran
-run_at p by None = ends NoRow
-run_at p by (Some row) =
-    if fits64 row.count && fits64 (row.count +ℤ by)
-    then record { outcome = Done; effects = record { table = p.table; key = p.key; delta = by } ∷ [] }
-    else ends Range
+-- the change that it makes
+abbrev pub change_asked : Request → RowEffect
+change_asked request = record { table = 0; key = key_of (first_arg request.args); delta = second_arg request.args }
+
+abbrev pub run_at : Request → Option Row → Ran
+run_at request None = ends NoRow
+run_at request (Some row) =
+    if fits64 row.count && fits64 (row.count +ℤ second_arg request.args) then record { outcome = Done; effects = change_asked request ∷ [] } else ends Range
 
 abbrev pub run_of : Request → Tables → Ran
-run_of request t = run_at (place_asked request) (second_arg request.args) (get t (place_asked request))
+run_of request t = run_at request (get t (place_asked request))

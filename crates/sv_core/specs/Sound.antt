@@ -1,10 +1,9 @@
 -- A sound document: initial rows with distinct keys that fit the one table, 1 to 8 sites, and no more than the limits allow.
-use Rattle.std.specs.Prelude.{◌≡◌, ℕ, ◌<◌, ◌≤◌, ◌^◌, pos, neg_ℤ, ◌≤ℤ◌, ◌<ℤ◌, ℤ, List, [], ◌∷◌, length, map, AllPairs, All, IsTrue, None}
-use Rattle.sv_value.specs.declared.values.Val.{Val}
+use Rattle.std.specs.Prelude.{◌≡◌, ◌≤◌, ℤ, List, [], ◌∷◌, length, All, IsTrue}
 use Rattle.sv_value.specs.declared.values.Val.TheVariants.{Int}
 use Rattle.sv_app.specs.declared.requests.InitRow.{InitRow}
 use Rattle.sv_core.specs.Document.{Document}
-use Rattle.sv_core.specs.TablesOfCut.{init_place, init_count, is_place}
+use Rattle.sv_core.specs.TablesOfCut.{init_place}
 use Rattle.sv_core.specs.Run.{fits64, key_of}
 
 -- a row of the one table: an integer key, which its first column repeats, and a counter within 64 bits

@@ -1,5 +1,5 @@
 -- What a world has been through, and what its calls answer and add.
-use Rattle.std.specs.Prelude.{◌≡◌, ℕ, zero, suc, ◌<◌, ◌≤◌, nat_lt, if◌then◌else◌, List, [], ◌∷◌, length, Option, Some, None, slice_get}
+use Rattle.std.specs.Prelude.{ℕ, zero, suc, nat_lt, if◌then◌else◌, List, [], ◌∷◌, length, Option, Some, None, slice_get}
 use Rattle.std.specs.Option.{option_map}
 use Rattle.sv_value.specs.declared.packets.Packet.{Packet}
 use Rattle.sv_value.specs.declared.packets.Packet.TheVariants.{Blue, Red}
@@ -58,10 +58,13 @@ abbrev pub by_missing : Option Packet → Delivered
 by_missing None = Applied
 by_missing (Some packet) = Early packet
 
+-- what becomes of a published packet at a site that has the cut
+abbrev pub judged_op : Cut → Packet → Op → Delivered
+judged_op cut packet op = if nat_lt (number packet) (cut (origin packet)) then Duplicate else by_missing (first_missing cut (counts op.deps))
+
 abbrev pub delivered_op : Document → History → ℕ → Packet → Option Op → Delivered
 delivered_op doc h site packet None = Unknown (length (published doc h (origin packet)))
-delivered_op doc h site packet (Some op) =
-    if nat_lt (number packet) (cut_of h site (origin packet)) then Duplicate else by_missing (first_missing (cut_of h site) (counts op.deps))
+delivered_op doc h site packet (Some op) = judged_op (cut_of h site) packet op
 
 -- what becomes of a packet: not published, had before, early, or applied, in this order of testing
 abbrev pub delivered : Document → History → ℕ → Packet → Delivered

@@ -9,13 +9,11 @@ ghost use Rattle.sv_core.specs.Sound.{AreDistinct};
 ghost use Rattle.sv_core.specs.TablesOfCut.{init_place, init_count, tables_held};
 ghost use Rattle.sv_app.specs.Tables.{place_cmp};
 
+use crate::ops::RowEffect;
 use std::alloc::Global;
 use std::marker::Model;
-
 use sv_app::{InitRow, Place};
 use sv_value::{NoMemory, Val};
-
-use crate::ops::RowEffect;
 
 /// A row that is kept: where it stands, and its counter.
 #[derive(Clone, Copy, Debug)]

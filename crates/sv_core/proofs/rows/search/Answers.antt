@@ -1,6 +1,5 @@
 use Rattle.std.proofs.Common.{rules}
 use Rattle.std.proofs.lemmas.List.Sorted.{answers_always}
-use Rattle.sv_app.specs.Tables.{place_cmp}
 use Rattle.sv_core.proofs.RowLaws.{searched}
 use Rattle.sv_core.proofs.rows.search.Goals as goal
 

@@ -1,4 +1,4 @@
-use Rattle.std.proofs.Common.{Some, sym, ap, subst, ◌∙◌}
+use Rattle.std.proofs.Common.{sym, ap, subst, ◌∙◌}
 use Rattle.std.specs.FinMap.{insert}
 use Rattle.sv_core.specs.Rows.{row_of, tables_in, IsAt, IsGapFor, AreRising}
 use Rattle.sv_core.proofs.RowLaws.{rising_set, rising_insert, tables_set, tables_insert}

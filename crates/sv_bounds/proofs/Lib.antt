@@ -1,0 +1,9 @@
+pub mod AnswerLaws
+pub mod ApartLaws
+pub mod ChainLaws
+pub mod DescentLaws
+pub mod FallLaws
+pub mod GreatestLaws
+pub mod RoundLaws
+pub mod SettleLaws
+pub mod WalkLaws

@@ -1,0 +1,5 @@
+pub mod Answers
+pub mod Differences
+pub mod Rounds
+pub mod Settling
+pub mod Walks

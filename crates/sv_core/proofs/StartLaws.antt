@@ -1,0 +1,39 @@
+-- The world of a sound document to which nothing has happened.
+use Rattle.std.proofs.Common.{◌≡◌, ℕ, zero, suc, ◌*◌, ◌-◌, ◌≤◌, List, [], length, get_or, Some, slice_get, refl, sym, ap, ◌∙◌, subst, reverse}
+use Rattle.std.specs.Prelude.{replicate}
+use Rattle.sv_core.specs.declared.ops.Op.{Op}
+use Rattle.sv_core.specs.declared.sites.SiteState.{SiteState}
+use Rattle.sv_core.specs.declared.entries.Entry.{Entry}
+use Rattle.sv_core.specs.Document.{Document}
+use Rattle.sv_core.specs.Sound.{Sound}
+use Rattle.sv_core.specs.TablesOfCut.{tables_held}
+use Rattle.sv_core.specs.Cut.{empty}
+use Rattle.sv_core.specs.WorldState.{AreFresh, Keeps}
+
+none_in : (n place : ℕ) (ops : List Op) → slice_get (replicate n []) place ≡ Some ops → ops ≡ []
+none_in zero place ops e = absurd cc
+none_in (suc n) zero ops e = let same : [] ≡ ops = cc in sym same
+none_in (suc n) (suc place) ops e = none_in n place ops e
+
+long_none : (n : ℕ) → length (replicate {A = List Op} n []) ≡ n
+long_none zero = refl
+long_none (suc n) = ap suc (long_none n)
+
+zero_in : (n i : ℕ) → get_or (replicate {A = ℕ} n 0) i 0 ≡ 0
+zero_in zero i = refl
+zero_in (suc n) zero = refl
+zero_in (suc n) (suc i) = zero_in n i
+
+pub keeps_start : (doc : Document) (history : List Entry) (lists : List (List Op)) (sites : List SiteState) (counts : List ℕ) (capacity : ℕ) → Sound doc → history ≡ []
+    → lists ≡ replicate doc.sites [] → AreFresh doc.sites (tables_held doc.init empty) sites → counts ≡ replicate {A = ℕ} 64 0 → 9 * doc.asks ≤ capacity
+    → Keeps doc (reverse history) lists sites counts capacity
+keeps_start doc history lists sites counts capacity sound none lists_are fresh counts_are room = subst (λ h. Keeps doc (reverse h) lists sites counts capacity) (sym none) (record {
+  sound = sound;
+  legal = tt;
+  lists_long = ap length lists_are ∙ long_none doc.sites;
+  lists_are = λ place ops get. none_in doc.sites place ops (ap (λ l. slice_get l place) (sym lists_are) ∙ get);
+  sites_long = fresh.long;
+  sites_are = λ place state get. record { cut = fresh.cuts place state get; rows = fresh.all place state get };
+  answers_are = λ session from to. ap (λ l. get_or l (session - 1) 0) counts_are ∙ zero_in 64 (session - 1);
+  room = room;
+})
