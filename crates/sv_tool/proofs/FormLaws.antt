@@ -15,19 +15,19 @@ use Rattle.sv_tool.specs.declared.readers.Parts.{Parts}
 use Rattle.sv_tool.specs.declared.readers.Schema.{Schema}
 use Rattle.sv_tool.specs.declared.steps.Step.{Step}
 use Rattle.sv_tool.specs.declared.steps.Step.TheVariants.{Ask, Deliver, Show}
-use Rattle.sv_tool.specs.Form.{Form, asks_in, shows_in}
+use Rattle.sv_tool.specs.Form.{Form, asks_in, shows_in, CountFrom}
 use Rattle.sv_tool.specs.Grammar.{kinds, word, count, IsWithin, AreMany, AreDifferent, IsTable, IsTxn, IsRow, IsAsk, IsDeliver, IsShow, IsStep, IsForm}
 use Rattle.sv_tool.specs.Reading.{Read, ◌>>=◌, after, is_kind, ends, is_empty, number_at, table_at, txn_at, txns_at, row_at, rows_at, step_at, steps_at, names_differ, places_differ, is_whole, parts_at, form_of_parts, whole_form, form_of}
 use Rattle.sv_tool.proofs.DistinctLaws.{Both, both, both_true, are_different, different_are, are_distinct, distinct_are}
 use Rattle.sv_tool.proofs.KindLaws.{Took, took_then, Same, same_read, bound, on_after, after_there}
 use Rattle.sv_tool.proofs.LeafLaws.{on_number, number_there, none_there}
-use Rattle.sv_tool.proofs.ListLaws.{ReadItem, many_few, many_read, ItemThere, many_there}
+use Rattle.sv_tool.proofs.ListLaws.{ReadItem, many_few, many_read, many_numbered, ItemThere, many_there}
 use Rattle.sv_tool.proofs.PartLaws.{table_read, table_there, txn_read, txn_there, row_read, row_there}
 use Rattle.sv_tool.proofs.PlaceLaws.{names_of}
 use Rattle.sv_tool.proofs.StepLaws.{step_read, step_there}
 
 -- the parts of a document, as the grammar speaks of them
-record ReadParts (tokens : List Token) (parts : Parts) (rest : List Token) : Type 0 where
+pub record ReadParts (tokens : List Token) (parts : Parts) (rest : List Token) : Type 0 where
   pub key : List ℕ
   pub counter : List ℕ
   pub table_part : List Token
@@ -47,6 +47,8 @@ record ReadParts (tokens : List Token) (parts : Parts) (rest : List Token) : Typ
   pub row_count : length parts.init ≤ 1024
   pub step_count : length parts.steps ≤ 65536
   pub site_count : IsWithin 1 8 parts.sites
+  pub table_numbered : parts.table.num ≡ 0
+  pub txns_numbered : CountFrom 0 (map (λ txn. txn.name.num) parts.txns)
 
 on_bound : {A B G : Type 0} (read : Read A) (more : A → List Token → Read B) (answer : B) (last : List Token) → read >>= more ≡ Some (answer, last)
   → ((item : A) (rest : List Token) → read ≡ Some (item, rest) → more item rest ≡ Some (answer, last) → G) → G
@@ -78,7 +80,7 @@ six : (a b c d e f r6 : List Token) {r0 r1 r2 r3 r4 r5 : List Token} → r0 ≡ 
 six a b c d e f r6 e0 e1 e2 e3 e4 e5 =
     e0 ∙ ap (λ (l : List Token). a ++ l) (e1 ∙ ap (λ (l : List Token). b ++ l) (e2 ∙ ap (λ (l : List Token). c ++ l) (e3 ∙ ap (λ (l : List Token). d ++ l) (e4 ∙ ap (λ (l : List Token). e ++ l) e5))))
 
-parts_read : (tokens : List Token) (parts : Parts) (rest : List Token) → parts_at tokens ≡ Some (parts, rest) → ReadParts tokens parts rest
+pub parts_read : (tokens : List Token) (parts : Parts) (rest : List Token) → parts_at tokens ≡ Some (parts, rest) → ReadParts tokens parts rest
 unfolding parts_at
 parts_read tokens parts rest e =
     on_bound (table_at tokens) _ parts rest e λ schema r1 is1 e1.
@@ -115,6 +117,8 @@ parts_read tokens parts rest e =
       row_count = many_few (λ _. row_at schema.table.name) 0 1024 r3 init r4 is4;
       step_count = many_few (λ _. step_at schema.table.name txns sites) 0 65536 r6 steps r7 is7;
       site_count = sites_fit;
+      table_numbered = table.numbered;
+      txns_numbered = many_numbered (txn_at schema) (λ txn. txn.name.num) (λ num from txn to is. (txn_read schema num from txn to is).numbered) 0 32 r1 txns r2 is2;
     })
 
 -- what is tested of a whole document

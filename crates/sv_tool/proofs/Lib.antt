@@ -9,6 +9,7 @@ pub mod ListLaws
 pub mod ManyLaws
 pub mod PartLaws
 pub mod PlaceLaws
+pub mod ReplayLaws
 pub mod RowsOfLaws
 pub mod ShowLaws
 pub mod StepLaws

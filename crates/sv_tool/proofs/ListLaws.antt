@@ -1,6 +1,7 @@
 -- Reading many items, against items one after another.
 use Rattle.std.proofs.Common.{◌≡◌, ◌∙◌, ℕ, zero, suc, ◌≤◌, Bool, true, false, List, [], ◌∷◌, ◌++◌, map, length, Option, Some, None, refl, sym, ap, subst, cond, arith, append_assoc}
 use Rattle.sv_lex.specs.declared.tokens.Token.{Token}
+use Rattle.sv_tool.specs.Form.{CountFrom}
 use Rattle.sv_tool.specs.Grammar.{IsNext, AreMany}
 use Rattle.sv_tool.specs.Reading.{Read, ◌>>=◌, ends, many}
 use Rattle.sv_tool.proofs.KindLaws.{Same, same_read, Bound, bound}
@@ -56,6 +57,23 @@ many_read {A} {B} read IsItem view each first (suc most) tokens xs rest e = by_t
         let same : Same (b.item ∷ c.item) xs c.rest rest = same_read c.left in
         let others = more b.rest c.item c.rest c.is in
         more_items IsItem view tokens b.rest rest b.item c.item xs (each first tokens b.item b.rest b.is) (subst (λ (l : List Token). ReadItem (AreMany IsItem) b.rest (map view c.item) l) same.rests others) same.item
+
+-- items that carry the numbers that they are read with
+pub many_numbered : {A : Type 0} (read : ℕ → List Token → Read A) (num_of : A → ℕ)
+  → ((num : ℕ) (tokens : List Token) (item : A) (rest : List Token) → read num tokens ≡ Some (item, rest) → num_of item ≡ num)
+  → (first most : ℕ) (tokens : List Token) (xs : List A) (rest : List Token) → many read first most tokens ≡ Some (xs, rest) → CountFrom first (map num_of xs)
+unfolding many
+many_numbered {A} read num_of each first zero tokens xs rest e = let same : Same [] xs tokens rest = same_read e in subst (λ (l : List A). CountFrom first (map num_of l)) same.item tt
+many_numbered {A} read num_of each first (suc most) tokens xs rest e = by_test (ends tokens) e (λ next. many_numbered read num_of each (suc first) most next)
+  where
+    by_test : (b : Bool) → cond {A = Read (List A)} b (Some ([], tokens)) (read first tokens >>= λ item rest'. many read (suc first) most rest' >>= λ items last. Some (item ∷ items, last)) ≡ Some (xs, rest)
+      → ((next : List Token) (ys : List A) (last : List Token) → many read (suc first) most next ≡ Some (ys, last) → CountFrom (suc first) (map num_of ys)) → CountFrom first (map num_of xs)
+    by_test true e more = let same : Same [] xs tokens rest = same_read e in subst (λ (l : List A). CountFrom first (map num_of l)) same.item tt
+    by_test false e more =
+        let b = bound (read first tokens) (λ item rest'. many read (suc first) most rest' >>= λ items last. Some (item ∷ items, last)) xs rest e in
+        let c = bound (many read (suc first) most b.rest) (λ items last. Some (b.item ∷ items, last)) xs rest b.left in
+        let same : Same (b.item ∷ c.item) xs c.rest rest = same_read c.left in
+        subst (λ (l : List A). CountFrom first (map num_of l)) same.item (each first tokens b.item b.rest b.is, more b.rest c.item c.rest c.is)
 
 -- an item that stands first is read
 pub record ItemThere {A B : Type 0} (read : ℕ → List Token → Read A) (view : A → B) (num : ℕ) (tokens last : List Token) (item : B) : Type 0 where

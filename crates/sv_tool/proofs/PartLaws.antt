@@ -57,6 +57,7 @@ pub record ReadTable (tokens : List Token) (schema : Schema) (rest : List Token)
   pub front : List Token
   pub whole : tokens ≡ front ++ rest
   pub is : IsTable front schema.table.name key schema.counter
+  pub numbered : schema.table.num ≡ 0
 
 pub table_read : (tokens : List Token) (schema : Schema) (rest : List Token) → table_at tokens ≡ Some (schema, rest) → ReadTable tokens schema rest
 unfolding table_at
@@ -77,6 +78,7 @@ table_read tokens schema rest e =
       whole = took.whole ∙ ap (λ (l : List Token). took.front ++ l) d.1.rests;
       is = subst (λ (s : Schema). IsTable took.front s.table.name key s.counter) d.1.item
         (record { written = took.are; table_free = table_free; key_free = key_free; counter_free = counter_free; differ = d.0 });
+      numbered = ap (λ (s : Schema). s.table.num) (sym d.1.item);
     }
 
 ident_there : {B : Type 0} (num : ℕ) (name : List ℕ) (ms : List TokenKind) (tokens last : List Token) (more : Ident → List Token → Read B) (answer : Read B)
@@ -110,12 +112,13 @@ table_there table key counter tokens last t =
         rw (differ_test key counter t.differ, none_there b7 last k7) refl);
     }
 
-pub record ReadTxn (schema : Schema) (tokens : List Token) (txn : Txn) (rest : List Token) : Type 0 where
+pub record ReadTxn (schema : Schema) (num : ℕ) (tokens : List Token) (txn : Txn) (rest : List Token) : Type 0 where
   pub front : List Token
   pub whole : tokens ≡ front ++ rest
   pub is : IsTxn schema.table.name schema.counter front txn.name.name
+  pub numbered : txn.name.num ≡ num
 
-pub txn_read : (schema : Schema) (num : ℕ) (tokens : List Token) (txn : Txn) (rest : List Token) → txn_at schema num tokens ≡ Some (txn, rest) → ReadTxn schema tokens txn rest
+pub txn_read : (schema : Schema) (num : ℕ) (tokens : List Token) (txn : Txn) (rest : List Token) → txn_at schema num tokens ≡ Some (txn, rest) → ReadTxn schema num tokens txn rest
 unfolding txn_at
 txn_read schema num tokens txn rest e =
     on_after (word (codes "txn") ∷ []) _ txn rest tokens e λ r1 t1 e1.
@@ -134,6 +137,7 @@ txn_read schema num tokens txn rest e =
       whole = took.whole ∙ ap (λ (l : List Token). took.front ++ l) d.1.rests;
       is = subst (λ (t : Txn). IsTxn schema.table.name schema.counter took.front t.name.name) d.1.item
         (record { first = first; second = second; written = took.are; name_free = name_free; first_free = first_free; second_free = second_free; differ = d.0 });
+      numbered = ap (λ (t : Txn). t.name.num) (sym d.1.item);
     }
 
 -- a transaction that stands first is read

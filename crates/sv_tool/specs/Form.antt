@@ -1,5 +1,5 @@
 -- What a document of the first form says: the name of its table, the names of its transactions, its initial rows, how many sites it has, and its steps.
-use Rattle.std.specs.Prelude.{◌≡◌, ℕ, zero, suc, List, [], ◌∷◌, map, length}
+use Rattle.std.specs.Prelude.{◌≡◌, ℕ, zero, suc, List, [], ◌∷◌, map, length, ⊤}
 use Rattle.sv_app.specs.declared.requests.InitRow.{InitRow}
 use Rattle.sv_core.specs.Document.{Document, document_of}
 use Rattle.sv_tool.specs.declared.steps.Replay.{Replay}
@@ -42,3 +42,13 @@ pub record Describes (replay : Replay) (form : Form) : Type 0 where
   pub tables : map (λ table. table.name.name) replay.doc.app.tables.items ≡ form.table ∷ []
   pub txns : map (λ txn. txn.name.name) replay.doc.app.txns.items ≡ form.txns
   pub steps : replay.steps ≡ form.steps
+
+-- numbers that count up from a first one
+abbrev pub CountFrom : ℕ → List ℕ → Type 0
+CountFrom first [] = ⊤
+CountFrom first (n ∷ ns) = (n ≡ first) × CountFrom (suc first) ns
+
+-- tables and transactions carry their places as their numbers
+pub record IsNumbered (replay : Replay) : Type 0 where
+  pub tables : CountFrom 0 (map (λ table. table.name.num) replay.doc.app.tables.items)
+  pub txns : CountFrom 0 (map (λ txn. txn.name.num) replay.doc.app.txns.items)

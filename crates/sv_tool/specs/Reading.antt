@@ -25,6 +25,7 @@ use Rattle.sv_core.specs.TablesOfCut.{is_place, init_place}
 use Rattle.sv_tool.specs.declared.readers.Pair.{Pair}
 use Rattle.sv_tool.specs.declared.readers.Parts.{Parts}
 use Rattle.sv_tool.specs.declared.readers.Schema.{Schema}
+use Rattle.sv_tool.specs.declared.steps.Replay.{Replay}
 use Rattle.sv_tool.specs.declared.steps.Step.{Step}
 use Rattle.sv_tool.specs.declared.steps.Step.TheVariants.{Ask, Deliver, Show}
 use Rattle.sv_tool.specs.Form.{Form, asks_in, shows_in}
@@ -282,6 +283,11 @@ form_of_parts parts = record {
   sites = parts.sites;
   steps = parts.steps;
 }
+
+-- a replay's table and transactions are those of these parts
+pub record HasApp (replay : Replay) (parts : Parts) : Type 0 where
+  pub tables : replay.doc.app.tables.items ≡ record { name = parts.table } ∷ []
+  pub txns : replay.doc.app.txns.items ≡ parts.txns
 
 abbrev pub whole_form : Read Parts → Option Form
 whole_form None = None

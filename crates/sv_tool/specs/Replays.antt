@@ -11,7 +11,7 @@ use Rattle.sv_core.specs.Sound.{Sound}
 use Rattle.sv_tool.specs.declared.steps.Replay.{Replay}
 use Rattle.sv_tool.specs.declared.steps.Step.{Step}
 use Rattle.sv_tool.specs.declared.steps.Step.TheVariants.{Ask, Deliver, Show}
-use Rattle.sv_tool.specs.Form.{Form, Describes}
+use Rattle.sv_tool.specs.Form.{Form, Describes, IsNumbered}
 use Rattle.sv_tool.specs.Grammar.{IsWithin, IsForm}
 use Rattle.sv_tool.specs.Reading.{at_start, form_of}
 
@@ -32,6 +32,7 @@ pub record IsReplay (tokens : List Token) (replay : Replay) : Type 0 where
   pub written : IsForm tokens form
   pub read : form_of tokens ≡ Some form
   pub describes : Describes replay form
+  pub numbered : IsNumbered replay
   pub sound : Sound (document_of replay.doc)
   pub fit : StepsFit (document_of replay.doc) replay.steps
 

@@ -4,6 +4,7 @@
 mod answers;
 mod laws;
 mod reader_checks;
+mod reader_laws;
 mod reader_names;
 mod reader_parts;
 mod reader_replays;
@@ -18,6 +19,7 @@ mod tops;
 mod words;
 
 pub use laws::rows_are_listed;
+pub use reader_laws::reading_is_grammar;
 pub use reader_replays::read_replay;
 pub use steps::{Replay, Step};
 pub use tops::{plain, top};

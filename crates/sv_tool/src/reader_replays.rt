@@ -1,6 +1,6 @@
 ghost use Rattle.std.specs.Prelude.{◌≡◌, ◌≤◌, IfOk};
 ghost use Rattle.sv_tool.specs.Form.{Describes, asks_in};
-ghost use Rattle.sv_tool.specs.Reading.{is_whole, form_of_parts};
+ghost use Rattle.sv_tool.specs.Reading.{is_whole, form_of_parts, HasApp};
 ghost use Rattle.sv_tool.specs.Replays.{Answers};
 
 use crate::reader_checks::{asks_in, names_differ, places_differ, shows_in};
@@ -63,7 +63,8 @@ fn is_whole(rest: &[Token], parts: &Parts) -> bool
 /// What these parts ask for.
 fn replay_of(alloc: Global, parts: Parts) -> Result<Replay, NoMemory>
     requires { asks_in parts.steps ≤ 8192 }
-    ensures { IfOk result (λ replay. Describes replay (form_of_parts parts)) }
+    ensures describes { IfOk result (λ replay. Describes replay (form_of_parts parts)) }
+    ensures app { IfOk result (λ replay. HasApp replay parts) }
 {
     let _named: Option<Packet> = None;
     let asks = asks_in(parts.steps.items()) as u32;

@@ -45,7 +45,7 @@ pub fn refused() -> Stop
 fn is_mark(wanted: Mark, found: Mark) -> bool
     ensures { result ≡ is_mark wanted found }
 {
-    found.bytes() == wanted.bytes()
+    found == wanted
 }
 
 /// Reads tokens from left to right: `rest` are those that are left.
