@@ -3,6 +3,7 @@ ghost use Rattle.std.specs.Fmt.{decimal, signed_decimal};
 ghost use Rattle.sv_core.specs.Rows.{entry_of};
 ghost use Rattle.sv_tool.specs.Lines.{packet_text, label_text, reply_text, answer_line, delivered_line, value_text, second_text, key_text, row_line, refusal_line};
 
+use itoa::Buffer;
 use sv_app::Refusal;
 use sv_core::{Delivered, KeptRow, Outcome, Reply};
 use sv_value::{Key, NoMemory, Packet, Val, put_int};
@@ -19,7 +20,8 @@ pub fn put_bytes(out: &mut Vec<u8>, bytes: &[u8]) -> Result<(), NoMemory>
 pub fn put_count(out: &mut Vec<u8>, n: u64) -> Result<(), NoMemory>
     ensures { OnOk result (out.new.items ≡ out.old.items ++ decimal n) }
 {
-    put_int(out, n as i128)
+    let mut buffer = Buffer::new();
+    put_bytes(out, buffer.format(n).as_bytes())
 }
 
 /// Appends the name of a packet.
@@ -107,13 +109,21 @@ pub fn put_delivered(out: &mut Vec<u8>, delivered: &Delivered) -> Result<(), NoM
     }
 }
 
+/// Appends the decimal digits of an integer, with `-` before them if it is negative.
+fn put_small(out: &mut Vec<u8>, n: i64) -> Result<(), NoMemory>
+    ensures { OnOk result (out.new.items ≡ out.old.items ++ signed_decimal n) }
+{
+    let mut buffer = Buffer::new();
+    put_bytes(out, buffer.format(n).as_bytes())
+}
+
 /// Appends a value: an integer, or a text between quotes.
 #[tactic(auto, using(crate::proofs::AppendLaws::appends))]
 fn put_value(out: &mut Vec<u8>, value: &Val) -> Result<(), NoMemory>
     ensures { OnOk result (out.new.items ≡ out.old.items ++ value_text value.now) }
 {
     match value {
-        Val::Int(n) => put_int(out, *n as i128),
+        Val::Int(n) => put_small(out, *n),
         Val::Text(text) => {
             put_bytes(out, b"'")?;
             put_bytes(out, text.bytes())?;
