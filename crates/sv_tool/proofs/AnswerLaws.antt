@@ -59,7 +59,7 @@ pub text_of : (read : Result Form Refusal) (replay : Replay) (answer : CodeAnswe
 text_of read replay answer r done text =
     let names : table_name replay.doc.app.tables.items ≡ r.form.table = name_of replay.doc.app.tables.items r.form.table r.describes.tables in
     let same : steps_text (document_of replay.doc) (table_name replay.doc.app.tables.items) [] replay.steps ≡ steps_text (document_of_form r.form) r.form.table [] r.form.steps =
-        λ i. steps_text (r.describes.document i) (names i) [] (r.describes.steps i) in
+    λ i. steps_text (r.describes.document i) (names i) [] (r.describes.steps i) in
     (λ i. record { status = done i; text = (text ∙ ap (λ lines. lines ++ codes "end\n") same) i }) ∙ ap form_answer (sym r.is)
 
 -- the history of an accepted document's text is legal
@@ -77,4 +77,5 @@ history_legal bytes = by (lexed bytes)
     by (Err fault) = tt
 
 pub ruleset answering = (sound_of, fits_of, text_of)
+
 pub ruleset histories = history_legal

@@ -84,17 +84,20 @@ can_ask form doc tokens h session request txns a lt = record {
 steps_fit : (form : Form) (doc : Document) (tokens : List Token) (h : History) (steps : List Step) → doc.txns ≡ length form.txns → doc.sites ≡ form.sites
     → AreMany (IsStep form.table form.txns form.sites) tokens steps → answers h + asks_in steps ≤ doc.asks → CanMakeAll doc h steps
 steps_fit form doc tokens h [] txns sites many room = tt
-steps_fit form doc tokens h (Ask session request ∷ steps) txns sites many room =
-    (can_ask form doc many.front h session request txns many.first (omega (arith, room)),
-     steps_fit form doc many.others (answer_due doc h session request ∷ h) steps txns sites many.then (omega (arith, room)))
-steps_fit form doc tokens h (Deliver site (Blue origin seq) ∷ steps) txns sites many room =
-    (record { from = many.first.at.from; to = omega (arith, sites, many.first.at.to) },
-     steps_fit form doc many.others (after_delivery (delivered doc h site (Blue origin seq)) site (Blue origin seq) h) steps txns sites many.then
-         (omega (arith, room, answers_stay h site (Blue origin seq) (delivered doc h site (Blue origin seq)))))
+steps_fit form doc tokens h (Ask session request ∷ steps) txns sites many room = (
+  can_ask form doc many.front h session request txns many.first (omega (arith, room)),
+  steps_fit form doc many.others (answer_due doc h session request ∷ h) steps txns sites many.then (omega (arith, room)),
+)
+steps_fit form doc tokens h (Deliver site (Blue origin seq) ∷ steps) txns sites many room = (
+  record { from = many.first.at.from; to = omega (arith, sites, many.first.at.to) },
+  steps_fit form doc many.others (after_delivery (delivered doc h site (Blue origin seq)) site (Blue origin seq) h) steps txns sites many.then
+      (omega (arith, room, answers_stay h site (Blue origin seq) (delivered doc h site (Blue origin seq)))),
+)
 steps_fit form doc tokens h (Deliver site (Red slot) ∷ steps) txns sites many room = absurd many.first
-steps_fit form doc tokens h (Show site number ∷ steps) txns sites many room =
-    (record { from = many.first.at.from; to = omega (arith, sites, many.first.at.to) },
-     steps_fit form doc many.others h steps txns sites many.then room)
+steps_fit form doc tokens h (Show site number ∷ steps) txns sites many room = (
+  record { from = many.first.at.from; to = omega (arith, sites, many.first.at.to) },
+  steps_fit form doc many.others h steps txns sites many.then room,
+)
 
 pub form_fits : (tokens : List Token) (form : Form) → IsForm tokens form → CanMakeAll (document_of_form form) [] form.steps
 form_fits tokens form f = steps_fit form (document_of_form form) f.step_part [] form.steps refl refl f.steps (omega arith)
@@ -113,5 +116,5 @@ steps_legal doc h (Ask session request ∷ steps) sound legal fit =
     steps_legal doc (answer_due doc h session request ∷ h) steps sound (due_next doc h session request fit.0.from fit.0.to fit.0.fits fit.0.awaited, legal) fit.1
 steps_legal doc h (Deliver site packet ∷ steps) sound legal fit =
     steps_legal doc (after_delivery (delivered doc h site packet) site packet h) steps sound
-        (delivery_legal doc h site packet sound legal fit.0.from fit.0.to (delivered doc h site packet) refl) fit.1
+    (delivery_legal doc h site packet sound legal fit.0.from fit.0.to (delivered doc h site packet) refl) fit.1
 steps_legal doc h (Show site number ∷ steps) sound legal fit = steps_legal doc h steps sound legal fit.1

@@ -83,9 +83,10 @@ is_true false t = absurd t
 pub rows_of_law : (table : ℕ) (t : Tables) → AreRowsOf table t (rows_of table t)
 rows_of_law table t = record {
   rising = is_true (is_sorted place_cmp (rows_of table t)) sorted;
-  members = λ place row.
-      (λ held. both (place.table == table) (place.table ≡ table) (get t place) row ((Decides-eqb place.table table).0) (sym (found_of table t place) ∙ found (rows_of table t) place row sorted held),
-       λ kept. stands (rows_of table t) place row (found_of table t place ∙ rw (((Decides-eqb place.table table).1 kept.0)) kept.1));
+  members = λ place row. (
+    λ held. both (place.table == table) (place.table ≡ table) (get t place) row ((Decides-eqb place.table table).0) (sym (found_of table t place) ∙ found (rows_of table t) place row sorted held),
+    λ kept. stands (rows_of table t) place row (found_of table t place ∙ rw (((Decides-eqb place.table table).1 kept.0)) kept.1),
+  );
 }
   where
     sorted : T (is_sorted place_cmp (rows_of table t))

@@ -81,7 +81,12 @@ fn words_of(alloc: Global, texts: &[&str]) -> Result<Words, Fail> {
 }
 
 /// The status of these words with this document, and the bytes that were written.
-fn run(alloc: Global, words: &[&str], document: &[u8], outside: Outside) -> Result<(u8, Vec<u8>), Fail>
+fn run(
+    alloc: Global,
+    words: &[&str],
+    document: &[u8],
+    outside: Outside,
+) -> Result<(u8, Vec<u8>), Fail>
     requires { 1 ≤ outside.step }
 {
     let words = words_of(alloc, words)?;
@@ -110,13 +115,7 @@ fn other_words_are_usage(rt: HostRuntime) -> Result<(), Fail> {
     let alloc = rt.alloc();
     let document = joined(alloc, &[TABLE, COUNTER])?;
     let none: [&str; 0] = [];
-    let others: [&[&str]; 5] = [
-        &none,
-        &["check"],
-        &["replay", "replay"],
-        &["Replay"],
-        &[""],
-    ];
+    let others: [&[&str]; 5] = [&none, &["check"], &["replay", "replay"], &["Replay"], &[""]];
     for words in others {
         let (status, written) = run(alloc, words, &document, sound(64))?;
         assert_eq!(rt; status, 2);

@@ -43,7 +43,8 @@ impl Words {
         ensures ok { OnOk result (self.new ≡ self.old ++ word.now ∷ []) }
         ensures err { OnErr result (self.new ≡ self.old) }
     {
-        self.words.push(Vec::from_slice(self.alloc, word.as_bytes())?)?;
+        self.words
+            .push(Vec::from_slice(self.alloc, word.as_bytes())?)?;
         Ok(())
     }
 
