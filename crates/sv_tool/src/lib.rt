@@ -7,6 +7,8 @@ mod reader_names;
 mod reader_parts;
 mod reader_replays;
 mod reader_steps;
+#[cfg(test)]
+mod reader_tests;
 mod readers;
 mod steps;
 
