@@ -51,30 +51,30 @@ pub record ReadParts (tokens : List Token) (parts : Parts) (rest : List Token) :
   pub txns_numbered : CountFrom 0 (map (λ txn. txn.name.num) parts.txns)
 
 on_bound : {A B G : Type 0} (read : Read A) (more : A → List Token → Read B) (answer : B) (last : List Token) → read >>= more ≡ Some (answer, last)
-  → ((item : A) (rest : List Token) → read ≡ Some (item, rest) → more item rest ≡ Some (answer, last) → G) → G
+    → ((item : A) (rest : List Token) → read ≡ Some (item, rest) → more item rest ≡ Some (answer, last) → G) → G
 on_bound read more answer last e next = let b = bound read more answer last e in next b.item b.rest b.is b.left
 
 txns_read : (schema : Schema) (tokens : List Token) (txns : List Txn) (rest : List Token) → txns_at schema tokens ≡ Some (txns, rest)
-  → ReadItem (AreMany (IsTxn schema.table.name schema.counter)) tokens (names_of txns) rest
+    → ReadItem (AreMany (IsTxn schema.table.name schema.counter)) tokens (names_of txns) rest
 txns_read schema tokens txns rest e =
     many_read (txn_at schema) (IsTxn schema.table.name schema.counter) (λ txn. txn.name.name)
-      (λ num from txn to is. let r = txn_read schema num from txn to is in record { front = r.front; whole = r.whole; is = r.is })
-      0 32 tokens txns rest e
+    (λ num from txn to is. let r = txn_read schema num from txn to is in record { front = r.front; whole = r.whole; is = r.is })
+    0 32 tokens txns rest e
 
 rows_read : (table : List ℕ) (tokens : List Token) (rows : List InitRow) (rest : List Token) → rows_at table tokens ≡ Some (rows, rest) → ReadItem (AreMany (IsRow table)) tokens rows rest
 rows_read table tokens rows rest e =
     subst (λ (l : List InitRow). ReadItem (AreMany (IsRow table)) tokens l rest) (map-id rows) (
     many_read (λ _. row_at table) (IsRow table) (λ row. row)
-      (λ num from row to is. let r = row_read table from row to is in record { front = r.front; whole = r.whole; is = r.is })
-      0 1024 tokens rows rest e)
+    (λ num from row to is. let r = row_read table from row to is in record { front = r.front; whole = r.whole; is = r.is })
+    0 1024 tokens rows rest e)
 
 steps_read : (table : List ℕ) (txns : List Txn) (sites : ℕ) (tokens : List Token) (steps : List Step) (rest : List Token) → steps_at table txns sites tokens ≡ Some (steps, rest)
-  → ReadItem (AreMany (IsStep table (names_of txns) sites)) tokens steps rest
+    → ReadItem (AreMany (IsStep table (names_of txns) sites)) tokens steps rest
 steps_read table txns sites tokens steps rest e =
     subst (λ (l : List Step). ReadItem (AreMany (IsStep table (names_of txns) sites)) tokens l rest) (map-id steps) (
     many_read (λ _. step_at table txns sites) (IsStep table (names_of txns) sites) (λ step. step)
-      (λ num from step to is. let r = step_read table txns sites from step to is in record { front = r.front; whole = r.whole; is = r.is })
-      0 65536 tokens steps rest e)
+    (λ num from step to is. let r = step_read table txns sites from step to is in record { front = r.front; whole = r.whole; is = r.is })
+    0 65536 tokens steps rest e)
 
 six : (a b c d e f r6 : List Token) {r0 r1 r2 r3 r4 r5 : List Token} → r0 ≡ a ++ r1 → r1 ≡ b ++ r2 → r2 ≡ c ++ r3 → r3 ≡ d ++ r4 → r4 ≡ e ++ r5 → r5 ≡ f ++ r6 → r0 ≡ a ++ (b ++ (c ++ (d ++ (e ++ (f ++ r6)))))
 six a b c d e f r6 e0 e1 e2 e3 e4 e5 =
@@ -106,7 +106,7 @@ parts_read tokens parts rest e =
       replay_part = replay.front;
       step_part = are_steps.front;
       whole = six table.front are_txns.front t3.front are_rows.front replay.front are_steps.front rest table.whole are_txns.whole t3.whole are_rows.whole replay.whole
-        (subst (λ (l : List Token). r6 ≡ are_steps.front ++ l) same.rests are_steps.whole);
+          (subst (λ (l : List Token). r6 ≡ are_steps.front ++ l) same.rests are_steps.whole);
       table = table.is;
       txns = are_txns.is;
       init = t3.are;
@@ -170,14 +170,14 @@ whole_facts rest parts e =
 facts_whole : (rest : List Token) (parts : Parts) → WholeFacts rest parts → is_whole rest parts ≡ true
 facts_whole rest parts w =
     both_true ((((is_empty rest && not (is_empty parts.txns)) && names_differ parts.txns) && places_differ parts.init) && nat_le (asks_in parts.steps) 8192) (nat_le (shows_in parts.steps) 64)
-      (both_true (((is_empty rest && not (is_empty parts.txns)) && names_differ parts.txns) && places_differ parts.init) (nat_le (asks_in parts.steps) 8192)
-        (both_true ((is_empty rest && not (is_empty parts.txns)) && names_differ parts.txns) (places_differ parts.init)
-          (both_true (is_empty rest && not (is_empty parts.txns)) (names_differ parts.txns)
-            (both_true (is_empty rest) (not (is_empty parts.txns)) (ap is_empty w.ended) (is_some parts.txns w.some))
-            (different_are parts.txns w.names))
-          (distinct_are parts.init w.keys))
-        (high (asks_in parts.steps) 8192 w.asks))
-      (high (shows_in parts.steps) 64 w.shows)
+    (both_true (((is_empty rest && not (is_empty parts.txns)) && names_differ parts.txns) && places_differ parts.init) (nat_le (asks_in parts.steps) 8192)
+    (both_true ((is_empty rest && not (is_empty parts.txns)) && names_differ parts.txns) (places_differ parts.init)
+    (both_true (is_empty rest && not (is_empty parts.txns)) (names_differ parts.txns)
+    (both_true (is_empty rest) (not (is_empty parts.txns)) (ap is_empty w.ended) (is_some parts.txns w.some))
+    (different_are parts.txns w.names))
+    (distinct_are parts.init w.keys))
+    (high (asks_in parts.steps) 8192 w.asks))
+    (high (shows_in parts.steps) 64 w.shows)
   where
     high : (a b : ℕ) → a ≤ b → nat_le a b ≡ true
     high a b le = grind (arith, nat_tests)
@@ -196,7 +196,7 @@ parts_form tokens parts rest r w = record {
   replay_part = r.replay_part;
   step_part = r.step_part;
   whole = r.whole ∙ ap (λ (l : List Token). r.table_part ++ (r.txn_part ++ (r.init_part ++ (r.row_part ++ (r.replay_part ++ (r.step_part ++ l)))))) w.ended
-    ∙ left_six r.table_part r.txn_part r.init_part r.row_part r.replay_part r.step_part;
+      ∙ left_six r.table_part r.txn_part r.init_part r.row_part r.replay_part r.step_part;
   table = r.table;
   txns = r.txns;
   init = r.init;
@@ -223,6 +223,7 @@ form_read tokens form e = by_case (parts_at tokens) refl e
         let same : form_of_parts parts ≡ form = cc in
         subst (λ (f : Form). IsForm tokens f) same (parts_form tokens parts rest (parts_read tokens parts rest is) (whole_facts rest parts t))
     by_test parts rest is false t e = absurd cc
+
     by_case : (read : Read Parts) → parts_at tokens ≡ read → whole_form read ≡ Some form → IsForm tokens form
     by_case None is e = absurd cc
     by_case (Some read) is e = by_test read.0 read.1 is (is_whole read.1 read.0) refl e
@@ -252,30 +253,30 @@ record TxnsThere (schema : Schema) (tokens last : List Token) (names : List (Lis
   pub seen : names_of found ≡ names
 
 txns_there : (schema : Schema) (tokens last : List Token) (names : List (List ℕ)) → AreMany (IsTxn schema.table.name schema.counter) tokens names → ends last ≡ true → length names ≤ 32
-  → TxnsThere schema tokens last names
+    → TxnsThere schema tokens last names
 txns_there schema tokens last names are end few =
     let all = many_there (txn_at schema) (IsTxn schema.table.name schema.counter) (λ txn. txn.name.name)
-      (λ num from to name is. let t = txn_there schema num name from to is in record { found = t.txn; is = t.is; seen = t.named })
-      (λ from to name is. ends_first (word (codes "txn")) _ from to is.written)
-      0 32 tokens last names are end few in
+    (λ num from to name is. let t = txn_there schema num name from to is in record { found = t.txn; is = t.is; seen = t.named })
+    (λ from to name is. ends_first (word (codes "txn")) _ from to is.written)
+    0 32 tokens last names are end few in
     record { found = all.found; is = all.is; seen = all.seen }
 
 rows_there : (table : List ℕ) (tokens last : List Token) (rows : List InitRow) → AreMany (IsRow table) tokens rows → ends last ≡ true → length rows ≤ 1024 → rows_at table (tokens ++ last) ≡ Some (rows, last)
 rows_there table tokens last rows are end few =
     let all = many_there (λ _. row_at table) (IsRow table) (λ row. row)
-      (λ num from to row is. record { found = row; is = row_there table from to row is; seen = refl })
-      (λ from to row is. ends_first (Name table) _ from to is.written)
-      0 1024 tokens last rows are end few in
+    (λ num from to row is. record { found = row; is = row_there table from to row is; seen = refl })
+    (λ from to row is. ends_first (Name table) _ from to is.written)
+    0 1024 tokens last rows are end few in
     let same : all.found ≡ rows = sym (map-id all.found) ∙ all.seen in
     all.is ∙ ap (λ (l : List InitRow). Some (l, last)) same
 
 steps_there : (table : List ℕ) (txns : List Txn) (sites : ℕ) (tokens last : List Token) (steps : List Step) → AreDifferent (names_of txns)
-  → AreMany (IsStep table (names_of txns) sites) tokens steps → ends last ≡ true → length steps ≤ 65536 → steps_at table txns sites (tokens ++ last) ≡ Some (steps, last)
+    → AreMany (IsStep table (names_of txns) sites) tokens steps → ends last ≡ true → length steps ≤ 65536 → steps_at table txns sites (tokens ++ last) ≡ Some (steps, last)
 steps_there table txns sites tokens last steps d are end few =
     let all = many_there (λ _. step_at table txns sites) (IsStep table (names_of txns) sites) (λ step. step)
-      (λ num from to step is. record { found = step; is = step_there table txns sites from to step d is; seen = refl })
-      (λ from to step is. step_begins table (names_of txns) sites from to step is)
-      0 65536 tokens last steps are end few in
+    (λ num from to step is. record { found = step; is = step_there table txns sites from to step d is; seen = refl })
+    (λ from to step is. step_begins table (names_of txns) sites from to step is)
+    0 65536 tokens last steps are end few in
     let same : all.found ≡ steps = sym (map-id all.found) ∙ all.seen in
     all.is ∙ ap (λ (l : List Step). Some (l, last)) same
 
@@ -301,20 +302,20 @@ parts_there tokens form f =
     let rows = rows_there form.table f.row_part l4 form.init f.rows (ends_first (Mark Percents) _ f.replay_part l5 f.replay) f.row_count in
     let names : AreDifferent (names_of txns.found) = subst AreDifferent (sym txns.seen) f.names in
     let are : AreMany (IsStep form.table (names_of txns.found) form.sites) f.step_part form.steps
-            = subst (λ (n : List (List ℕ)). AreMany (IsStep form.table n form.sites) f.step_part form.steps) (sym txns.seen) f.steps in
+    = subst (λ (n : List (List ℕ)). AreMany (IsStep form.table n form.sites) f.step_part form.steps) (sym txns.seen) f.steps in
     let steps = steps_there form.table txns.found form.sites f.step_part [] form.steps names are refl f.step_count in
     let parts : Parts = record { table = table; txns = txns.found; init = form.init; sites = form.sites; steps = form.steps } in
     record {
       parts = parts;
       is = ap parts_at whole ∙ (
-        bind_is (table_at (f.table_part ++ l1)) _ schema l1 _ t.is (
-        bind_is (txns_at schema l1) _ txns.found l2 _ txns.is (
-        after_all (Mark Percents ∷ word (codes "init") ∷ []) f.init_part l3 _ _ f.init (
-        bind_is (rows_at form.table l3) _ form.init l4 _ rows (
-        after_there (Mark Percents ∷ word (codes "replay") ∷ word (codes "sites") ∷ Mark Eq ∷ []) (count form.sites ∷ []) f.replay_part l5 _ _ f.replay λ b5 k5.
-        number_there 1 8 form.sites [] b5 l5 _ _ f.site_count k5 λ b6 k6.
-        rw (none_there b6 l5 k6) (
-        bind_is (steps_at form.table txns.found form.sites l5) _ form.steps [] _ steps refl))))));
+          bind_is (table_at (f.table_part ++ l1)) _ schema l1 _ t.is (
+          bind_is (txns_at schema l1) _ txns.found l2 _ txns.is (
+          after_all (Mark Percents ∷ word (codes "init") ∷ []) f.init_part l3 _ _ f.init (
+          bind_is (rows_at form.table l3) _ form.init l4 _ rows (
+          after_there (Mark Percents ∷ word (codes "replay") ∷ word (codes "sites") ∷ Mark Eq ∷ []) (count form.sites ∷ []) f.replay_part l5 _ _ f.replay λ b5 k5.
+          number_there 1 8 form.sites [] b5 l5 _ _ f.site_count k5 λ b6 k6.
+          rw (none_there b6 l5 k6) (
+          bind_is (steps_at form.table txns.found form.sites l5) _ form.steps [] _ steps refl))))));
       same = λ i. record { table = form.table; txns = txns.seen i; init = form.init; sites = form.sites; steps = form.steps };
     }
 
@@ -327,8 +328,8 @@ form_there tokens form f =
     let w : WholeFacts [] p.parts = record {
       ended = refl;
       some = let same : length (names_of p.parts.txns) ≡ length p.parts.txns = length-map p.parts.txns (λ (txn : Txn). txn.name.name) in
-             let few : 1 ≤ length (names_of p.parts.txns) = at (λ x. 1 ≤ length x.txns) f.txn_count.from in
-             omega (arith, same, few);
+          let few : 1 ≤ length (names_of p.parts.txns) = at (λ x. 1 ≤ length x.txns) f.txn_count.from in
+          omega (arith, same, few);
       names = at (λ x. AreDifferent x.txns) f.names;
       keys = at (λ x. AreDistinct x.init) f.keys;
       asks = at (λ x. asks_in x.steps ≤ 8192) f.ask_count;

@@ -104,7 +104,7 @@ after_read {B} (wanted ∷ ks) tokens more answer last e =
 
 -- tokens of given kinds are read first
 pub on_after : {B G : Type 0} (ks : List TokenKind) (more : List Token → Read B) (answer : B) (last tokens : List Token) → after ks tokens more ≡ Some (answer, last)
-  → ((rest : List Token) → Took tokens ks rest → more rest ≡ Some (answer, last) → G) → G
+    → ((rest : List Token) → Took tokens ks rest → more rest ≡ Some (answer, last) → G) → G
 on_after ks more answer last tokens e next = let b = after_read ks tokens more answer last e in next b.rest b.took b.left
 
 pub kind_there : (wanted : TokenKind) (token : Token) (rest : List Token) → token.kind ≡ wanted → kind_at wanted (token ∷ rest) ≡ Some (tt, rest)
@@ -114,7 +114,7 @@ kind_there wanted token rest e =
 
 -- tokens of given kinds are read, and what stands behind them
 pub after_there : {B : Type 0} (ks ms : List TokenKind) (tokens last : List Token) (more : List Token → Read B) (answer : Read B)
-  → kinds tokens ≡ ks ++ ms → ((back : List Token) → kinds back ≡ ms → more (back ++ last) ≡ answer) → after ks (tokens ++ last) more ≡ answer
+    → kinds tokens ≡ ks ++ ms → ((back : List Token) → kinds back ≡ ms → more (back ++ last) ≡ answer) → after ks (tokens ++ last) more ≡ answer
 unfolding after
 after_there [] ms tokens last more answer e next = next tokens e
 after_there (wanted ∷ ks) ms [] last more answer e next = absurd cc

@@ -46,7 +46,7 @@ among_append (word ∷ words) others name =
 
 -- five lists joined
 among_five : (a b c d e : List (List ℕ)) (name : List ℕ)
-  → is_among (a ++ (b ++ (c ++ (d ++ e)))) name ≡ is_among a name || (is_among b name || (is_among c name || (is_among d name || is_among e name)))
+    → is_among (a ++ (b ++ (c ++ (d ++ e)))) name ≡ is_among a name || (is_among b name || (is_among c name || (is_among d name || is_among e name)))
 among_five a b c d e name =
     among_append a (b ++ (c ++ (d ++ e))) name ∙ ap (λ r. is_among a name || r) (
     among_append b (c ++ (d ++ e)) name ∙ ap (λ r. is_among b name || r) (
@@ -72,7 +72,7 @@ pub record Found {A : Type 0} (find : TokenKind → Option A) (tokens : List Tok
 
 -- a token in which something is found
 pub found : {A : Type 0} (find : TokenKind → Option A) (token : Token) (others : List Token) (a : A) (rest : List Token)
-  → with_rest others (find token.kind) ≡ Some (a, rest) → Found find (token ∷ others) a rest
+    → with_rest others (find token.kind) ≡ Some (a, rest) → Found find (token ∷ others) a rest
 found {A} find token others a rest e = by_case (find token.kind) refl e
   where
     by_case : (f : Option A) → find token.kind ≡ f → with_rest others f ≡ Some (a, rest) → Found find (token ∷ others) a rest
@@ -182,7 +182,7 @@ plain_read tokens z rest e =
     }
 
 signed_read : (tokens : List Token) (z : ℤ) (rest : List Token)
-  → (kind_at (Mark Minus) tokens >>= λ _ r. int_at r >>= λ n last. with_rest last (fitting (neg_ℤ n))) ≡ Some (z, rest) → ReadValue tokens z rest
+    → (kind_at (Mark Minus) tokens >>= λ _ r. int_at r >>= λ n last. with_rest last (fitting (neg_ℤ n))) ≡ Some (z, rest) → ReadValue tokens z rest
 signed_read tokens z rest e =
     let a = bound (kind_at (Mark Minus) tokens) (λ _ r. int_at r >>= λ n last. with_rest last (fitting (neg_ℤ n))) z rest e in
     let b = bound (int_at a.rest) (λ n last. with_rest last (fitting (neg_ℤ n))) z rest a.left in
@@ -201,15 +201,15 @@ unfolding value_at
 value_read tokens z rest e = by_test (is_next (Mark Minus) tokens) refl e
   where
     by_test : (b : Bool) → is_next (Mark Minus) tokens ≡ b
-      → cond {A = Read ℤ} b (kind_at (Mark Minus) tokens >>= λ _ r. int_at r >>= λ n last. with_rest last (fitting (neg_ℤ n))) (int_at tokens >>= λ n last. with_rest last (fitting n)) ≡ Some (z, rest)
-      → ReadValue tokens z rest
+        → cond {A = Read ℤ} b (kind_at (Mark Minus) tokens >>= λ _ r. int_at r >>= λ n last. with_rest last (fitting (neg_ℤ n))) (int_at tokens >>= λ n last. with_rest last (fitting n)) ≡ Some (z, rest)
+        → ReadValue tokens z rest
     by_test true t e = signed_read tokens z rest e
     by_test false t e = plain_read tokens z rest e
 
 module _ {B G : Type 0} (more : ℤ → List Token → Read B) (answer : B) (last : List Token) where
   -- a value is read first
   pub on_value : (tokens : List Token) → (value_at tokens >>= more) ≡ Some (answer, last)
-    → ((z : ℤ) (rest : List Token) (part : List TokenKind) → Took tokens part rest → IsVal part z → more z rest ≡ Some (answer, last) → G) → G
+      → ((z : ℤ) (rest : List Token) (part : List TokenKind) → Took tokens part rest → IsVal part z → more z rest ≡ Some (answer, last) → G) → G
   on_value tokens e next =
       let b = bound (value_at tokens) more answer last e in
       let v = value_read tokens b.item b.rest b.is in
@@ -218,7 +218,7 @@ module _ {B G : Type 0} (more : ℤ → List Token → Read B) (answer : B) (las
 module _ {B G : Type 0} (more : List ℕ → List Token → Read B) (answer : B) (last : List Token) where
   -- a name is read first
   pub on_name : (tokens : List Token) → (name_at tokens >>= more) ≡ Some (answer, last)
-    → ((name : List ℕ) (rest : List Token) → Took tokens (Name name ∷ []) rest → IsFree name → more name rest ≡ Some (answer, last) → G) → G
+      → ((name : List ℕ) (rest : List Token) → Took tokens (Name name ∷ []) rest → IsFree name → more name rest ≡ Some (answer, last) → G) → G
   on_name tokens e next =
       let b = bound (name_at tokens) more answer last e in
       let n = name_read tokens b.item b.rest b.is in
@@ -227,7 +227,7 @@ module _ {B G : Type 0} (more : List ℕ → List Token → Read B) (answer : B)
 module _ {B G : Type 0} (more : ℕ → List Token → Read B) (answer : B) (last : List Token) where
   -- a number is read first
   pub on_number : (least most : ℕ) (tokens : List Token) → (number_at least most tokens >>= more) ≡ Some (answer, last)
-    → ((n : ℕ) (rest : List Token) → Took tokens (count n ∷ []) rest → IsWithin least most n → more n rest ≡ Some (answer, last) → G) → G
+      → ((n : ℕ) (rest : List Token) → Took tokens (count n ∷ []) rest → IsWithin least most n → more n rest ≡ Some (answer, last) → G) → G
   on_number least most tokens e next =
       let b = bound (number_at least most tokens) more answer last e in
       let n = number_read least most tokens b.item b.rest b.is in
@@ -297,7 +297,7 @@ value_signed sign token rest n s e fits =
 
 -- a value that stands first is read, and what stands behind it
 pub value_there : {B : Type 0} (part ms : List TokenKind) (z : ℤ) (tokens last : List Token) (more : ℤ → List Token → Read B) (answer : Read B)
-  → IsVal part z → kinds tokens ≡ part ++ ms → ((back : List Token) → kinds back ≡ ms → more z (back ++ last) ≡ answer) → (value_at (tokens ++ last) >>= more) ≡ answer
+    → IsVal part z → kinds tokens ≡ part ++ ms → ((back : List Token) → kinds back ≡ ms → more z (back ++ last) ≡ answer) → (value_at (tokens ++ last) >>= more) ≡ answer
 value_there _ ms _ [] last more answer (Plain n fits) e next = absurd cc
 value_there {B} _ ms _ (token ∷ tokens) last more answer (Plain n fits) e next =
     let kind : token.kind ≡ Number n = cc in
@@ -316,7 +316,7 @@ name_here token rest name e free =
     ap (λ k. with_rest rest (name_in k)) e ∙ ap (λ b. with_rest rest (cond b None (Some name))) (free_is name free)
 
 pub name_there : {B : Type 0} (name : List ℕ) (ms : List TokenKind) (tokens last : List Token) (more : List ℕ → List Token → Read B) (answer : Read B)
-  → IsFree name → kinds tokens ≡ Name name ∷ ms → ((back : List Token) → kinds back ≡ ms → more name (back ++ last) ≡ answer) → (name_at (tokens ++ last) >>= more) ≡ answer
+    → IsFree name → kinds tokens ≡ Name name ∷ ms → ((back : List Token) → kinds back ≡ ms → more name (back ++ last) ≡ answer) → (name_at (tokens ++ last) >>= more) ≡ answer
 name_there name ms [] last more answer free e next = absurd cc
 name_there {B} name ms (token ∷ tokens) last more answer free e next =
     let kind : token.kind ≡ Name name = cc in
@@ -336,7 +336,7 @@ number_here least most token rest n e w =
     ∙ ap (λ (f : Option ℕ). with_rest rest f) (within_there least most n w)
 
 pub number_there : {B : Type 0} (least most n : ℕ) (ms : List TokenKind) (tokens last : List Token) (more : ℕ → List Token → Read B) (answer : Read B)
-  → IsWithin least most n → kinds tokens ≡ count n ∷ ms → ((back : List Token) → kinds back ≡ ms → more n (back ++ last) ≡ answer) → (number_at least most (tokens ++ last) >>= more) ≡ answer
+    → IsWithin least most n → kinds tokens ≡ count n ∷ ms → ((back : List Token) → kinds back ≡ ms → more n (back ++ last) ≡ answer) → (number_at least most (tokens ++ last) >>= more) ≡ answer
 number_there least most n ms [] last more answer w e next = absurd cc
 number_there {B} least most n ms (token ∷ tokens) last more answer w e next =
     let kind : token.kind ≡ count n = cc in
@@ -348,7 +348,7 @@ pub pair_there : (part : List TokenKind) (pair : Pair) (tokens last : List Token
 unfolding pair_at
 pair_there part pair tokens last p e =
     let written : kinds tokens ≡ Mark LeftParen ∷ (p.first_part ++ (Mark Comma ∷ (p.second_part ++ (Mark RightParen ∷ Mark Semi ∷ []))))
-            = e ∙ p.whole ∙ ap (λ (l : List TokenKind). Mark LeftParen ∷ l) (append_assoc p.first_part (Mark Comma ∷ p.second_part) (Mark RightParen ∷ Mark Semi ∷ [])) in
+    = e ∙ p.whole ∙ ap (λ (l : List TokenKind). Mark LeftParen ∷ l) (append_assoc p.first_part (Mark Comma ∷ p.second_part) (Mark RightParen ∷ Mark Semi ∷ [])) in
     after_there (Mark LeftParen ∷ []) _ tokens last _ _ written λ b1 k1.
     value_there p.first_part _ pair.first b1 last _ _ p.first_is k1 λ b2 k2.
     after_there (Mark Comma ∷ []) _ b2 last _ _ k2 λ b3 k3.

@@ -12,7 +12,7 @@ many_few {A} read first zero tokens xs rest e = let same : Same [] xs tokens res
 many_few {A} read first (suc most) tokens xs rest e = by_test (ends tokens) e (λ next. many_few read (suc first) most next)
   where
     by_test : (b : Bool) → cond {A = Read (List A)} b (Some ([], tokens)) (read first tokens >>= λ item rest'. many read (suc first) most rest' >>= λ items last. Some (item ∷ items, last)) ≡ Some (xs, rest)
-      → ((next : List Token) (ys : List A) (last : List Token) → many read (suc first) most next ≡ Some (ys, last) → length ys ≤ most) → length xs ≤ suc most
+        → ((next : List Token) (ys : List A) (last : List Token) → many read (suc first) most next ≡ Some (ys, last) → length ys ≤ most) → length xs ≤ suc most
     by_test true e more = let same : Same [] xs tokens rest = same_read e in subst (λ (l : List A). length l ≤ suc most) same.item (omega arith)
     by_test false e more =
         let b = bound (read first tokens) (λ item rest'. many read (suc first) most rest' >>= λ items last. Some (item ∷ items, last)) xs rest e in
@@ -34,7 +34,7 @@ no_items {A} IsItem view tokens xs rest same = record {
 }
 
 more_items : {A B : Type 0} (IsItem : List Token → B → Type 0) (view : A → B) (tokens next rest : List Token) (x : A) (xs ys : List A)
-  → ReadItem IsItem tokens (view x) next → ReadItem (AreMany IsItem) next (map view xs) rest → x ∷ xs ≡ ys → ReadItem (AreMany IsItem) tokens (map view ys) rest
+    → ReadItem IsItem tokens (view x) next → ReadItem (AreMany IsItem) next (map view xs) rest → x ∷ xs ≡ ys → ReadItem (AreMany IsItem) tokens (map view ys) rest
 more_items {A} IsItem view tokens next rest x xs ys first others same = record {
   front = first.front ++ others.front;
   whole = first.whole ∙ ap (λ (l : List Token). first.front ++ l) others.whole ∙ sym (append_assoc first.front others.front rest);
@@ -42,14 +42,14 @@ more_items {A} IsItem view tokens next rest x xs ys first others same = record {
 }
 
 pub many_read : {A B : Type 0} (read : ℕ → List Token → Read A) (IsItem : List Token → B → Type 0) (view : A → B)
-  → ((num : ℕ) (tokens : List Token) (item : A) (rest : List Token) → read num tokens ≡ Some (item, rest) → ReadItem IsItem tokens (view item) rest)
-  → (first most : ℕ) (tokens : List Token) (xs : List A) (rest : List Token) → many read first most tokens ≡ Some (xs, rest) → ReadItem (AreMany IsItem) tokens (map view xs) rest
+    → ((num : ℕ) (tokens : List Token) (item : A) (rest : List Token) → read num tokens ≡ Some (item, rest) → ReadItem IsItem tokens (view item) rest)
+    → (first most : ℕ) (tokens : List Token) (xs : List A) (rest : List Token) → many read first most tokens ≡ Some (xs, rest) → ReadItem (AreMany IsItem) tokens (map view xs) rest
 unfolding many
 many_read read IsItem view each first zero tokens xs rest e = no_items IsItem view tokens xs rest (same_read e)
 many_read {A} {B} read IsItem view each first (suc most) tokens xs rest e = by_test (ends tokens) e (λ next. many_read read IsItem view each (suc first) most next)
   where
     by_test : (b : Bool) → cond {A = Read (List A)} b (Some ([], tokens)) (read first tokens >>= λ item rest'. many read (suc first) most rest' >>= λ items last. Some (item ∷ items, last)) ≡ Some (xs, rest)
-      → ((next : List Token) (ys : List A) (last : List Token) → many read (suc first) most next ≡ Some (ys, last) → ReadItem (AreMany IsItem) next (map view ys) last) → ReadItem (AreMany IsItem) tokens (map view xs) rest
+        → ((next : List Token) (ys : List A) (last : List Token) → many read (suc first) most next ≡ Some (ys, last) → ReadItem (AreMany IsItem) next (map view ys) last) → ReadItem (AreMany IsItem) tokens (map view xs) rest
     by_test true e more = no_items IsItem view tokens xs rest (same_read e)
     by_test false e more =
         let b = bound (read first tokens) (λ item rest'. many read (suc first) most rest' >>= λ items last. Some (item ∷ items, last)) xs rest e in
@@ -60,14 +60,14 @@ many_read {A} {B} read IsItem view each first (suc most) tokens xs rest e = by_t
 
 -- items that carry the numbers that they are read with
 pub many_numbered : {A : Type 0} (read : ℕ → List Token → Read A) (num_of : A → ℕ)
-  → ((num : ℕ) (tokens : List Token) (item : A) (rest : List Token) → read num tokens ≡ Some (item, rest) → num_of item ≡ num)
-  → (first most : ℕ) (tokens : List Token) (xs : List A) (rest : List Token) → many read first most tokens ≡ Some (xs, rest) → CountFrom first (map num_of xs)
+    → ((num : ℕ) (tokens : List Token) (item : A) (rest : List Token) → read num tokens ≡ Some (item, rest) → num_of item ≡ num)
+    → (first most : ℕ) (tokens : List Token) (xs : List A) (rest : List Token) → many read first most tokens ≡ Some (xs, rest) → CountFrom first (map num_of xs)
 unfolding many
 many_numbered {A} read num_of each first zero tokens xs rest e = let same : Same [] xs tokens rest = same_read e in subst (λ (l : List A). CountFrom first (map num_of l)) same.item tt
 many_numbered {A} read num_of each first (suc most) tokens xs rest e = by_test (ends tokens) e (λ next. many_numbered read num_of each (suc first) most next)
   where
     by_test : (b : Bool) → cond {A = Read (List A)} b (Some ([], tokens)) (read first tokens >>= λ item rest'. many read (suc first) most rest' >>= λ items last. Some (item ∷ items, last)) ≡ Some (xs, rest)
-      → ((next : List Token) (ys : List A) (last : List Token) → many read (suc first) most next ≡ Some (ys, last) → CountFrom (suc first) (map num_of ys)) → CountFrom first (map num_of xs)
+        → ((next : List Token) (ys : List A) (last : List Token) → many read (suc first) most next ≡ Some (ys, last) → CountFrom (suc first) (map num_of ys)) → CountFrom first (map num_of xs)
     by_test true e more = let same : Same [] xs tokens rest = same_read e in subst (λ (l : List A). CountFrom first (map num_of l)) same.item tt
     by_test false e more =
         let b = bound (read first tokens) (λ item rest'. many read (suc first) most rest' >>= λ items last. Some (item ∷ items, last)) xs rest e in
@@ -87,9 +87,9 @@ pub record ItemsThere {A B : Type 0} (read : ℕ → List Token → Read A) (vie
   pub seen : map view found ≡ items
 
 pub many_there : {A B : Type 0} (read : ℕ → List Token → Read A) (IsItem : List Token → B → Type 0) (view : A → B)
-  → ((num : ℕ) (tokens last : List Token) (item : B) → IsItem tokens item → ItemThere read view num tokens last item)
-  → ((tokens last : List Token) (item : B) → IsItem tokens item → ends (tokens ++ last) ≡ false)
-  → (first most : ℕ) (tokens last : List Token) (items : List B) → AreMany IsItem tokens items → ends last ≡ true → length items ≤ most → ItemsThere read view first most tokens last items
+    → ((num : ℕ) (tokens last : List Token) (item : B) → IsItem tokens item → ItemThere read view num tokens last item)
+    → ((tokens last : List Token) (item : B) → IsItem tokens item → ends (tokens ++ last) ≡ false)
+    → (first most : ℕ) (tokens last : List Token) (items : List B) → AreMany IsItem tokens items → ends last ≡ true → length items ≤ most → ItemsThere read view first most tokens last items
 unfolding many
 many_there read IsItem view each begins first zero tokens last [] are end le = record { found = []; is = ap (λ (l : List Token). Some ([], l ++ last)) are; seen = refl }
 many_there read IsItem view each begins first zero tokens last (item ∷ items) are end le = absurd (omega (arith, le))

@@ -21,7 +21,7 @@ use Rattle.sv_tool.proofs.LeafLaws.{on_name, on_value, pair_read, name_here, nam
 module _ {B G : Type 0} (more : Ident → List Token → Read B) (answer : B) (last : List Token) where
   -- a name with its number is read first
   pub on_ident : (num : ℕ) (tokens : List Token) → (ident_at num tokens >>= more) ≡ Some (answer, last)
-    → ((name : List ℕ) (rest : List Token) → Took tokens (Name name ∷ []) rest → IsFree name → more (record { name = name; spot = spot_of tokens; num = num }) rest ≡ Some (answer, last) → G) → G
+      → ((name : List ℕ) (rest : List Token) → Took tokens (Name name ∷ []) rest → IsFree name → more (record { name = name; spot = spot_of tokens; num = num }) rest ≡ Some (answer, last) → G) → G
   on_ident num tokens e next =
       let b = bound (ident_at num tokens) more answer last e in
       on_name (λ name rest. Some (record { name = name; spot = spot_of tokens; num = num }, rest)) b.item b.rest tokens b.is λ name rest took free is.
@@ -31,7 +31,7 @@ module _ {B G : Type 0} (more : Ident → List Token → Read B) (answer : B) (l
 module _ {B G : Type 0} (more : Pair → List Token → Read B) (answer : B) (last : List Token) where
   -- two values are read first
   pub on_pair : (tokens : List Token) → (pair_at tokens >>= more) ≡ Some (answer, last)
-    → ((pair : Pair) (rest : List Token) (part : List TokenKind) → Took tokens part rest → IsPair part pair.first pair.second → more pair rest ≡ Some (answer, last) → G) → G
+      → ((pair : Pair) (rest : List Token) (part : List TokenKind) → Took tokens part rest → IsPair part pair.first pair.second → more pair rest ≡ Some (answer, last) → G) → G
   on_pair tokens e next =
       let b = bound (pair_at tokens) more answer last e in
       let p = pair_read tokens b.item b.rest b.is in
@@ -77,13 +77,13 @@ table_read tokens schema rest e =
       front = took.front;
       whole = took.whole ∙ ap (λ (l : List Token). took.front ++ l) d.1.rests;
       is = subst (λ (s : Schema). IsTable took.front s.table.name key s.counter) d.1.item
-        (record { written = took.are; table_free = table_free; key_free = key_free; counter_free = counter_free; differ = d.0 });
+          (record { written = took.are; table_free = table_free; key_free = key_free; counter_free = counter_free; differ = d.0 });
       numbered = ap (λ (s : Schema). s.table.num) (sym d.1.item);
     }
 
 ident_there : {B : Type 0} (num : ℕ) (name : List ℕ) (ms : List TokenKind) (tokens last : List Token) (more : Ident → List Token → Read B) (answer : Read B)
-  → IsFree name → kinds tokens ≡ Name name ∷ ms
-  → ((back : List Token) → kinds back ≡ ms → more (record { name = name; spot = spot_of (tokens ++ last); num = num }) (back ++ last) ≡ answer) → (ident_at num (tokens ++ last) >>= more) ≡ answer
+    → IsFree name → kinds tokens ≡ Name name ∷ ms
+    → ((back : List Token) → kinds back ≡ ms → more (record { name = name; spot = spot_of (tokens ++ last); num = num }) (back ++ last) ≡ answer) → (ident_at num (tokens ++ last) >>= more) ≡ answer
 ident_there num name ms [] last more answer free e next = absurd cc
 ident_there {B} num name ms (token ∷ tokens) last more answer free e next =
     let kind : token.kind ≡ Name name = cc in
@@ -103,13 +103,13 @@ table_there table key counter tokens last t =
     record {
       spot = spot_of (s.back ++ last);
       is = s.is ∙ (
-        ident_there 0 table _ s.back last _ _ t.table_free s.are λ b2 k2.
-        after_there (Mark LeftParen ∷ []) _ b2 last _ _ k2 λ b3 k3.
-        name_there key _ b3 last _ _ t.key_free k3 λ b4 k4.
-        after_there (word (codes "int") ∷ Mark Comma ∷ []) _ b4 last _ _ k4 λ b5 k5.
-        name_there counter _ b5 last _ _ t.counter_free k5 λ b6 k6.
-        after_there (word (codes "int") ∷ Mark At ∷ word (codes "NUMDELTA") ∷ Mark Comma ∷ word (codes "primary") ∷ word (codes "key") ∷ Mark LeftParen ∷ Name key ∷ Mark RightParen ∷ Mark RightParen ∷ Mark Semi ∷ []) [] b6 last _ _ k6 λ b7 k7.
-        rw (differ_test key counter t.differ, none_there b7 last k7) refl);
+          ident_there 0 table _ s.back last _ _ t.table_free s.are λ b2 k2.
+          after_there (Mark LeftParen ∷ []) _ b2 last _ _ k2 λ b3 k3.
+          name_there key _ b3 last _ _ t.key_free k3 λ b4 k4.
+          after_there (word (codes "int") ∷ Mark Comma ∷ []) _ b4 last _ _ k4 λ b5 k5.
+          name_there counter _ b5 last _ _ t.counter_free k5 λ b6 k6.
+          after_there (word (codes "int") ∷ Mark At ∷ word (codes "NUMDELTA") ∷ Mark Comma ∷ word (codes "primary") ∷ word (codes "key") ∷ Mark LeftParen ∷ Name key ∷ Mark RightParen ∷ Mark RightParen ∷ Mark Semi ∷ []) [] b6 last _ _ k6 λ b7 k7.
+          rw (differ_test key counter t.differ, none_there b7 last k7) refl);
     }
 
 pub record ReadTxn (schema : Schema) (num : ℕ) (tokens : List Token) (txn : Txn) (rest : List Token) : Type 0 where
@@ -136,7 +136,7 @@ txn_read schema num tokens txn rest e =
       front = took.front;
       whole = took.whole ∙ ap (λ (l : List Token). took.front ++ l) d.1.rests;
       is = subst (λ (t : Txn). IsTxn schema.table.name schema.counter took.front t.name.name) d.1.item
-        (record { first = first; second = second; written = took.are; name_free = name_free; first_free = first_free; second_free = second_free; differ = d.0 });
+          (record { first = first; second = second; written = took.are; name_free = name_free; first_free = first_free; second_free = second_free; differ = d.0 });
       numbered = ap (λ (t : Txn). t.name.num) (sym d.1.item);
     }
 
@@ -154,14 +154,14 @@ txn_there schema num name tokens last t =
       txn = record { name = record { name = name; spot = spot_of (s.back ++ last); num = num } };
       named = refl;
       is = s.is ∙ (
-        ident_there num name _ s.back last _ _ t.name_free s.are λ b2 k2.
-        after_there (Mark LeftParen ∷ []) _ b2 last _ _ k2 λ b3 k3.
-        name_there t.first _ b3 last _ _ t.first_free k3 λ b4 k4.
-        after_there (Mark Colon ∷ word (codes "int") ∷ Mark Comma ∷ []) _ b4 last _ _ k4 λ b5 k5.
-        name_there t.second _ b5 last _ _ t.second_free k5 λ b6 k6.
-        after_there (Mark Colon ∷ word (codes "int") ∷ Mark RightParen ∷ Mark LeftBrace ∷ word (codes "update") ∷ Name schema.table.name ∷ Mark LeftBracket ∷ Name t.first ∷ Mark RightBracket ∷ []) _ b6 last _ _ k6 λ b7 k7.
-        after_there (word (codes "set") ∷ Name schema.counter ∷ Mark Eq ∷ word (codes "old") ∷ Mark Dot ∷ Name schema.counter ∷ Mark Plus ∷ Name t.second ∷ Mark Semi ∷ Mark RightBrace ∷ []) [] b7 last _ _ k7 λ b8 k8.
-        rw (differ_test t.first t.second t.differ, none_there b8 last k8) refl);
+          ident_there num name _ s.back last _ _ t.name_free s.are λ b2 k2.
+          after_there (Mark LeftParen ∷ []) _ b2 last _ _ k2 λ b3 k3.
+          name_there t.first _ b3 last _ _ t.first_free k3 λ b4 k4.
+          after_there (Mark Colon ∷ word (codes "int") ∷ Mark Comma ∷ []) _ b4 last _ _ k4 λ b5 k5.
+          name_there t.second _ b5 last _ _ t.second_free k5 λ b6 k6.
+          after_there (Mark Colon ∷ word (codes "int") ∷ Mark RightParen ∷ Mark LeftBrace ∷ word (codes "update") ∷ Name schema.table.name ∷ Mark LeftBracket ∷ Name t.first ∷ Mark RightBracket ∷ []) _ b6 last _ _ k6 λ b7 k7.
+          after_there (word (codes "set") ∷ Name schema.counter ∷ Mark Eq ∷ word (codes "old") ∷ Mark Dot ∷ Name schema.counter ∷ Mark Plus ∷ Name t.second ∷ Mark Semi ∷ Mark RightBrace ∷ []) [] b7 last _ _ k7 λ b8 k8.
+          rw (differ_test t.first t.second t.differ, none_there b8 last k8) refl);
     }
 
 pub record ReadRow (table : List ℕ) (tokens : List Token) (row : InitRow) (rest : List Token) : Type 0 where
@@ -182,7 +182,7 @@ row_read table tokens row rest e =
     let same : Same (row_of (spot_of tokens) pair) row r2 rest = same_read e2 in
     let took = took_then t1 t2 in
     let placed : first_spot took.front ≡ Some (spot_of tokens)
-             = spot_first took.front r2 (Name table) part took.are ∙ ap (λ (l : List Token). Some (spot_of l)) (sym took.whole) in
+    = spot_first took.front r2 (Name table) part took.are ∙ ap (λ (l : List Token). Some (spot_of l)) (sym took.whole) in
     record {
       front = took.front;
       whole = took.whole ∙ ap (λ (l : List Token). took.front ++ l) same.rests;

@@ -52,15 +52,16 @@ has_place name txns i d e =
     let within : i < length txns = slice_get_within txns i t.0 t.1 in
     let here : bytes_eq (get_or txns i t.0).name.name name ≡ true = (bytes_eq-Decides (get_or txns i t.0).name.name name).1 (ap (λ (x : Txn). x.name.name) (get_or_from_slice_get txns i t.0 t.0 t.1) ∙ t.2) in
     let before : (k : ℕ) → k < i → bytes_eq (get_or txns k t.0).name.name name ≡ false
-               = λ k lt. not_named (get_or txns k t.0).name.name (earlier (names_of txns) i k name (get_or txns k t.0).name.name d e (named_at k t.0 (omega (arith, lt, within))) lt) in
+    = λ k lt. not_named (get_or txns k t.0).name.name (earlier (names_of txns) i k name (get_or txns k t.0).name.name d e (named_at k t.0 (omega (arith, lt, within))) lt) in
     let first : position_or_len (λ (txn : Txn). bytes_eq txn.name.name name) txns ≡ i
-              = position_or_len_is (λ (txn : Txn). bytes_eq txn.name.name name) txns i t.0 (omega (arith, within)) before (λ _. here) in
+    = position_or_len_is (λ (txn : Txn). bytes_eq txn.name.name name) txns i t.0 (omega (arith, within)) before (λ _. here) in
     let test : nat_lt i (length txns) ≡ true = (Decides-ltb i (length txns)).1 within in
     ap (λ n. cond (nat_lt n (length txns)) (Some n) None) first ∙ ap (λ b. cond b (Some i) None) test
   where
     named_at : (k : ℕ) (d : Txn) → k < length txns → slice_get (names_of txns) k ≡ Some (get_or txns k d).name.name
     named_at k d lt =
         slice_get-map (λ (txn : Txn). txn.name.name) txns k ∙ ap (λ (found : Option Txn). option_map (λ (txn : Txn). txn.name.name) found) (slice_get-get_or txns k d lt)
+
     not_named : (other : List ℕ) → other ≢ name → bytes_eq other name ≡ false
     not_named other ne = by_test (bytes_eq other name) refl ne
       where

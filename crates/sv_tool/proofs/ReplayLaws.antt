@@ -82,7 +82,7 @@ app_numbered tokens parts rest replay r app = record {
 }
 
 pub parts_replay : (tokens : List Token) (parts : Parts) (rest : List Token) (replay : Replay) → parts_at tokens ≡ Some (parts, rest) → is_whole rest parts ≡ true → Describes replay (form_of_parts parts) → HasApp replay parts
-  → IsReplay tokens replay
+    → IsReplay tokens replay
 unfolding form_of
 parts_replay tokens parts rest replay is whole d app =
     let read : form_of tokens ≡ Some (form_of_parts parts) = ap whole_form is ∙ ap (λ b. cond b (Some (form_of_parts parts)) None) whole in
@@ -95,7 +95,7 @@ parts_replay tokens parts rest replay is whole d app =
       numbered = app_numbered tokens parts rest replay (parts_read tokens parts rest is) app;
       sound = subst Sound (sym d.document) (form_sound tokens (form_of_parts parts) written);
       fit = subst (λ (doc : Document). StepsFit doc replay.steps) (sym d.document)
-        (subst (λ (l : List Step). StepsFit (document_of_form (form_of_parts parts)) l) (sym d.steps) (steps_fit (form_of_parts parts) written.step_part (form_of_parts parts).steps written.steps));
+          (subst (λ (l : List Step). StepsFit (document_of_form (form_of_parts parts)) l) (sym d.steps) (steps_fit (form_of_parts parts) written.step_part (form_of_parts parts).steps written.steps));
     }
 
 -- tokens of no form are refused

@@ -37,8 +37,8 @@ named_read txns [] i rest e = absurd cc
 named_read txns (token ∷ others) i rest e = let f = found (txn_in txns) token others i rest e in txn_found txns (token ∷ others) rest f.kind i f.is f.took
 
 named_there : {B : Type 0} (txns : List Txn) (i : ℕ) (name : List ℕ) (ms : List TokenKind) (tokens last : List Token) (more : ℕ → List Token → Read B) (answer : Read B)
-  → AreDifferent (names_of txns) → slice_get (names_of txns) i ≡ Some name → kinds tokens ≡ Name name ∷ ms
-  → ((back : List Token) → kinds back ≡ ms → more i (back ++ last) ≡ answer) → (named_at txns (tokens ++ last) >>= more) ≡ answer
+    → AreDifferent (names_of txns) → slice_get (names_of txns) i ≡ Some name → kinds tokens ≡ Name name ∷ ms
+    → ((back : List Token) → kinds back ≡ ms → more i (back ++ last) ≡ answer) → (named_at txns (tokens ++ last) >>= more) ≡ answer
 named_there txns i name ms [] last more answer d is e next = absurd cc
 named_there {B} txns i name ms (token ∷ tokens) last more answer d is e next =
     let kind : token.kind ≡ Name name = cc in
@@ -60,7 +60,7 @@ ask_read table txns sites tokens step rest e =
     let same : Same (Ask session (request_of txn pair)) step r4 rest = same_read e4 in
     let took = took_then t1 (took_then t2 (took_then t3 t4)) in
     let is : IsAsk (names_of txns) took.front session (request_of txn pair)
-           = record { name = name; first = pair.first; second = pair.second; pair_part = part; written = took.are; pair = pair_is; asks = session_fits; named = named; args = refl } in
+    = record { name = name; first = pair.first; second = pair.second; pair_part = part; written = took.are; pair = pair_is; asks = session_fits; named = named; args = refl } in
     record {
       front = took.front;
       whole = took.whole ∙ ap (λ (l : List Token). took.front ++ l) same.rests;
@@ -68,7 +68,7 @@ ask_read table txns sites tokens step rest e =
     }
   where
     on_named : {G : Type 0} {more : ℕ → List Token → Read Step} (tokens' : List Token) → (named_at txns tokens' >>= more) ≡ Some (step, rest)
-      → ((i : ℕ) (rest' : List Token) (name : List ℕ) → Took tokens' (Name name ∷ []) rest' → slice_get (names_of txns) i ≡ Some name → more i rest' ≡ Some (step, rest) → G) → G
+        → ((i : ℕ) (rest' : List Token) (name : List ℕ) → Took tokens' (Name name ∷ []) rest' → slice_get (names_of txns) i ≡ Some name → more i rest' ≡ Some (step, rest) → G) → G
     on_named {G} {more} tokens' e next =
         let b = bound (named_at txns tokens') more step rest e in
         let n = named_read txns tokens' b.item b.rest b.is in
@@ -108,12 +108,12 @@ show_read table txns sites tokens step rest e =
     }
 
 pub step_read : (table : List ℕ) (txns : List Txn) (sites : ℕ) (tokens : List Token) (step : Step) (rest : List Token) → step_at table txns sites tokens ≡ Some (step, rest)
-  → ReadStep table (names_of txns) sites tokens step rest
+    → ReadStep table (names_of txns) sites tokens step rest
 unfolding step_at
 step_read table txns sites tokens step rest e = by_test (is_next (word (codes "ask")) tokens) (is_next (word (codes "deliver")) tokens) e
   where
     by_test : (ask deliver : Bool) → cond {A = Read Step} ask (ask_at txns tokens) (cond {A = Read Step} deliver (deliver_at sites tokens) (show_at sites table tokens)) ≡ Some (step, rest)
-      → ReadStep table (names_of txns) sites tokens step rest
+        → ReadStep table (names_of txns) sites tokens step rest
     by_test true deliver e = ask_read table txns sites tokens step rest e
     by_test false true e = deliver_read table (names_of txns) sites tokens step rest e
     by_test false false e = show_read table (names_of txns) sites tokens step rest e
@@ -124,7 +124,7 @@ next_is wanted kind ms [] last e = absurd cc
 next_is wanted kind ms (token ∷ tokens) last e = let same : token.kind ≡ kind = cc in ap (λ k. is_kind wanted k) same
 
 ask_there : (txns : List Txn) (tokens last : List Token) (session : ℕ) (request : Request) → AreDifferent (names_of txns) → IsAsk (names_of txns) tokens session request
-  → ask_at txns (tokens ++ last) ≡ Some (Ask session request, last)
+    → ask_at txns (tokens ++ last) ≡ Some (Ask session request, last)
 unfolding ask_at
 ask_there txns tokens last session request d a =
     let pair : Pair = record { first = a.first; second = a.second } in
@@ -157,7 +157,7 @@ show_there sites table tokens last site number s =
 
 -- a step that stands first is read
 pub step_there : (table : List ℕ) (txns : List Txn) (sites : ℕ) (tokens last : List Token) (step : Step) → AreDifferent (names_of txns) → IsStep table (names_of txns) sites tokens step
-  → step_at table txns sites (tokens ++ last) ≡ Some (step, last)
+    → step_at table txns sites (tokens ++ last) ≡ Some (step, last)
 unfolding step_at
 step_there table txns sites tokens last (Ask session request) d s =
     let a : IsAsk (names_of txns) tokens session request = s in

@@ -35,7 +35,6 @@ abbrev pub Read : Type 0 → Type 0
 Read A = Option (A × List Token)
 
 infixl 10 ◌>>=◌
-
 abbrev pub ◌>>=◌ : {A B : Type 0} → Read A → (A → List Token → Read B) → Read B
 None >>= more = None
 (Some read) >>= more = more read.0 read.1

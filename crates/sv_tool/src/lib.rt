@@ -9,6 +9,8 @@ mod reader_names;
 mod reader_parts;
 mod reader_replays;
 mod reader_steps;
+#[cfg(test)]
+mod reader_tests;
 mod readers;
 mod replays;
 mod shows;

@@ -9,5 +9,4 @@ use sv_lex::Token;
 pub fn reading_is_grammar(tokens: &[Token])
     ensures within { (form : Form) → form_of tokens.now ≡ Some form → IsForm tokens.now form }
     ensures whole { (form : Form) → IsForm tokens.now form → form_of tokens.now ≡ Some form }
-{
-}
+{}

@@ -25,7 +25,8 @@ fn request_of(alloc: Global, txn: u16, pair: &Pair) -> Result<Request, NoMemory>
 fn place_of(name: &Name, txns: &[Txn]) -> Option<usize>
     ensures { result ≡ position (λ txn. bytes_eq txn.name.name name.now) txns.now }
 {
-    txns.iter().position(|txn| txn.name.name.bytes() == name.bytes())
+    txns.iter()
+        .position(|txn| txn.name.name.bytes() == name.bytes())
 }
 
 impl Reader<'_> {
@@ -125,7 +126,13 @@ impl Reader<'_> {
 
     /// Reads the steps.
     #[tactic(auto, using(crate::proofs::ManyLaws::reading))]
-    pub fn steps(&mut self, alloc: Global, table: &Name, txns: &[Txn], sites: u8) -> Result<List<Step>, Stop>
+    pub fn steps(
+        &mut self,
+        alloc: Global,
+        table: &Name,
+        txns: &[Txn],
+        sites: u8,
+    ) -> Result<List<Step>, Stop>
         requires txns { length txns.now ≤ 32 }
         requires sites { sites ≤ 8 }
         ensures { Reads result self.new.rest.now (steps_at table.now txns.now sites self.old.rest.now) }

@@ -13,5 +13,5 @@ returns c =
     let found = c.args.found in
     let wanted = c.args.wanted in
     c.eq.ensures ∙ same_from_decides (sameb the_type found wanted) (bytes_eq (mark_bytes found) (mark_bytes wanted))
-      (λ t. same_true the_type tt found wanted t, λ e. true_same the_type found wanted e)
-      (λ t. same_mark found wanted ((bytes_eq-Decides (mark_bytes found) (mark_bytes wanted)).0 t), λ e. (bytes_eq-Decides (mark_bytes found) (mark_bytes wanted)).1 (ap mark_bytes e))
+    (λ t. same_true the_type tt found wanted t, λ e. true_same the_type found wanted e)
+    (λ t. same_mark found wanted ((bytes_eq-Decides (mark_bytes found) (mark_bytes wanted)).0 t), λ e. (bytes_eq-Decides (mark_bytes found) (mark_bytes wanted)).1 (ap mark_bytes e))
