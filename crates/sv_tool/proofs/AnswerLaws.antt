@@ -9,8 +9,7 @@ use Rattle.sv_app.specs.declared.refusals.Refusal.{Refusal}
 use Rattle.sv_core.specs.Document.{Document, document_of}
 use Rattle.sv_core.specs.Sound.{Sound}
 use Rattle.sv_core.specs.Legal.{Legal}
-use Rattle.sv_tool.specs.declared.statuses.Status.{Status}
-use Rattle.sv_tool.specs.declared.statuses.Status.TheVariants.{Done, Refused}
+use Rattle.sv_tool.specs.declared.statuses.Status.TheVariants.{Done}
 use Rattle.sv_tool.specs.declared.steps.Replay.{Replay}
 use Rattle.sv_tool.specs.declared.steps.Step.{Step}
 use Rattle.sv_tool.specs.declared.answers.Answer.{Answer as CodeAnswer}
@@ -21,7 +20,7 @@ use Rattle.sv_tool.specs.Reading.{form_of}
 use Rattle.sv_tool.specs.ReplayText.{steps_text, replay_history}
 use Rattle.sv_tool.specs.ReadDocument.{table_name, IsReplayIn, said_by}
 use Rattle.sv_tool.specs.CanMake.{CanMakeAll}
-use Rattle.sv_tool.specs.Answer.{at_the_front, form_among, form_in, form_answer}
+use Rattle.sv_tool.specs.Answer.{at_the_front, form_among, form_answer}
 use Rattle.sv_tool.proofs.FormLaws.{form_read}
 use Rattle.sv_tool.proofs.FitLaws.{form_sound, form_fits, steps_legal}
 

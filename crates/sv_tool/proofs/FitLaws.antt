@@ -1,5 +1,5 @@
 -- A document of the first form is sound, its steps fit it, and the history that they make is legal.
-use Rattle.std.proofs.Common.{◌≡◌, ℕ, zero, suc, ◌+◌, ◌<◌, ◌≤◌, List, [], ◌∷◌, length, Some, slice_get, slice_index_or, refl, sym, ap, subst, ◌∙◌, arith, get_or}
+use Rattle.std.proofs.Common.{◌≡◌, ℕ, zero, suc, ◌+◌, ◌<◌, ◌≤◌, List, [], ◌∷◌, length, refl, sym, ap, subst, arith}
 use Rattle.std.specs.Prelude.{All, IsTrue, ℤ}
 use Rattle.std.proofs.lemmas.Option.{slice_get_within}
 use Rattle.sv_value.specs.declared.packets.Packet.{Packet}
@@ -14,7 +14,7 @@ use Rattle.sv_core.specs.Document.{Document}
 use Rattle.sv_core.specs.Sound.{Sound, IsInitRow}
 use Rattle.sv_core.specs.Run.{fits64, first_arg, second_arg}
 use Rattle.sv_core.specs.History.{History, answers}
-use Rattle.sv_core.specs.Legal.{Legal, FitsDoc}
+use Rattle.sv_core.specs.Legal.{Legal}
 use Rattle.sv_core.specs.World.{answer_due, delivered, after_delivery}
 use Rattle.sv_core.proofs.StepLaws.{due_next}
 use Rattle.sv_core.proofs.WorldLaws.{is_apply}
@@ -22,8 +22,8 @@ use Rattle.sv_tool.specs.declared.steps.Step.{Step}
 use Rattle.sv_tool.specs.declared.steps.Step.TheVariants.{Ask, Deliver, Show}
 use Rattle.sv_tool.specs.Form.{Form, document_of_form, asks_in}
 use Rattle.sv_tool.specs.Grammar.{IsForm, IsRow, IsStep, IsAsk, IsVal, Plain, Signed, AreMany}
-use Rattle.sv_tool.specs.ReplayText.{after_step, after_steps}
-use Rattle.sv_tool.specs.CanMake.{CanAsk, CanMake, CanMakeAll}
+use Rattle.sv_tool.specs.ReplayText.{after_steps}
+use Rattle.sv_tool.specs.CanMake.{CanAsk, CanMakeAll}
 
 val_fits : {kinds : List TokenKind} {n : ℤ} → IsVal kinds n → IsTrue (fits64 n)
 val_fits (Plain n fits) = fits

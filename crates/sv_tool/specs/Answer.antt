@@ -1,6 +1,6 @@
 -- What `replay` answers to the bytes of a document: a status and a text. More than 1,048,576 bytes are refused with code 10, and a document
 -- that isn't of the first form with code 1, each at the first line and column. Every other document is replayed.
-use Rattle.std.specs.Prelude.{◌≡◌, ℕ, nat_lt, if◌then◌else◌, List, [], ◌∷◌, length, Option, Result, Ok, Err, codes}
+use Rattle.std.specs.Prelude.{◌≡◌, ℕ, nat_lt, if◌then◌else◌, List, [], ◌∷◌, length, Result, Ok, Err, codes}
 use Rattle.std.specs.Option.{ok_or}
 use Rattle.sv_io.specs.Flows.{most_bytes}
 use Rattle.sv_lex.specs.declared.tokens.Token.{Token}

@@ -1,5 +1,5 @@
 -- The lines of an output text. Each ends with a line feed; values print as decimal integers, or as texts between quotes.
-use Rattle.std.specs.Prelude.{ℕ, List, [], ◌∷◌, ◌++◌, length, Option, Some, None, codes}
+use Rattle.std.specs.Prelude.{ℕ, List, [], ◌++◌, length, Option, Some, None, codes}
 use Rattle.std.specs.List.{flat_map}
 use Rattle.std.specs.Fmt.{decimal, signed_decimal}
 use Rattle.sv_value.specs.declared.packets.Packet.{Packet}

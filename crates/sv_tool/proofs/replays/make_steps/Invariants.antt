@@ -1,5 +1,5 @@
-use Rattle.std.proofs.Common.{◌≡◌, ◌++◌, length}
-use Rattle.std.specs.Vec.Iter.{into_iter_items, into_iter_len}
+use Rattle.std.proofs.Common.{◌≡◌, ◌++◌}
+use Rattle.std.specs.Vec.Iter.{into_iter_items}
 use Rattle.sv_tool.specs.ReplayText.{steps_text, after_steps}
 use Rattle.sv_tool.specs.CanMake.{CanMakeAll}
 use Rattle.sv_tool.proofs.replays.make_steps.Given as goal
