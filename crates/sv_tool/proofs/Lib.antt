@@ -1,0 +1,16 @@
+pub mod AnswerLaws
+pub mod AppendLaws
+pub mod DistinctLaws
+pub mod FitLaws
+pub mod FormLaws
+pub mod KindLaws
+pub mod LeafLaws
+pub mod ListLaws
+pub mod ManyLaws
+pub mod PartLaws
+pub mod PlaceLaws
+pub mod ReplayLaws
+pub mod RowsOfLaws
+pub mod ShowLaws
+pub mod StepLaws
+pub mod WordLaws

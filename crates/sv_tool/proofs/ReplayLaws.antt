@@ -1,0 +1,113 @@
+-- What the reader answers, by the parts that it read.
+use Rattle.std.proofs.Common.{◌≡◌, ◌∙◌, ℕ, ℤ, true, false, List, [], ◌∷◌, map, length, Some, None, Err, refl, sym, ap, subst, cond, All, IsTrue}
+use Rattle.std.proofs.lemmas.List.Elements.{All-nil, All-cons}
+use Rattle.std.proofs.lemmas.Option.{slice_get_within}
+use Rattle.sv_value.specs.declared.packets.Packet.TheVariants.{Blue, Red}
+use Rattle.sv_lex.specs.declared.tokens.Token.{Token}
+use Rattle.sv_lex.specs.declared.tokens.TokenKind.{TokenKind}
+use Rattle.sv_app.specs.declared.apps.Table.{Table}
+use Rattle.sv_app.specs.declared.apps.Txn.{Txn}
+use Rattle.sv_app.specs.declared.refusals.Stop.{Stop}
+use Rattle.sv_app.specs.declared.refusals.Stop.TheVariants.{Refused, NoMemory}
+use Rattle.sv_app.specs.declared.requests.Arg.{Arg}
+use Rattle.sv_app.specs.declared.requests.InitRow.{InitRow}
+use Rattle.sv_app.specs.declared.requests.Request.{Request}
+use Rattle.sv_core.specs.Document.{Document}
+use Rattle.sv_core.specs.Legal.{FitsDoc}
+use Rattle.sv_core.specs.Run.{fits64, first_arg, second_arg}
+use Rattle.sv_core.specs.Sound.{IsInitRow, Sound}
+use Rattle.sv_tool.specs.declared.readers.Parts.{Parts}
+use Rattle.sv_tool.specs.declared.steps.Replay.{Replay}
+use Rattle.sv_tool.specs.declared.steps.Step.{Step}
+use Rattle.sv_tool.specs.declared.steps.Step.TheVariants.{Ask, Deliver, Show}
+use Rattle.sv_tool.specs.Form.{Form, Describes, document_of_form, CountFrom, IsNumbered}
+use Rattle.sv_tool.specs.Grammar.{IsVal, Plain, Signed, AreMany, IsRow, IsAsk, IsDeliver, IsShow, IsStep, IsForm}
+use Rattle.sv_tool.specs.Reading.{Reads, at_start, HasApp, is_whole, parts_at, form_of_parts, whole_form, form_of}
+use Rattle.sv_tool.specs.Replays.{StepFits, StepsFit, IsReplay, Answers}
+use Rattle.sv_tool.proofs.FormLaws.{ReadParts, parts_read, form_read, form_there}
+
+val_fits : {part : List TokenKind} {z : ℤ} → IsVal part z → IsTrue (fits64 z)
+val_fits (Plain n fits) = fits
+val_fits (Signed n fits) = fits
+
+row_fits : (table : List ℕ) (tokens : List Token) (row : InitRow) → IsRow table tokens row → IsInitRow row
+row_fits table tokens row r = record {
+  key = r.key;
+  count = r.start;
+  table = r.numbered;
+  named = r.keyed;
+  values = r.values;
+  key_fits = val_fits r.pair.first_is;
+  count_fits = val_fits r.pair.second_is;
+}
+
+rows_fit : (table : List ℕ) (tokens : List Token) (rows : List InitRow) → AreMany (IsRow table) tokens rows → All IsInitRow rows
+rows_fit table tokens [] are = All-nil IsInitRow
+rows_fit table tokens (row ∷ rows) are = All-cons IsInitRow row rows (row_fits table are.front row are.first) (rows_fit table are.others rows are.then)
+
+form_sound : (tokens : List Token) (form : Form) → IsForm tokens form → Sound (document_of_form form)
+form_sound tokens form f = record {
+  tables = refl;
+  txns = f.txn_count.to;
+  rows = rows_fit form.table f.row_part form.init f.rows;
+  few = f.row_count;
+  distinct = f.keys;
+  some = f.site_count.from;
+  sites = f.site_count.to;
+  asks = f.ask_count;
+}
+
+ask_fits : (form : Form) (tokens : List Token) (session : ℕ) (request : Request) → IsAsk form.txns tokens session request → FitsDoc (document_of_form form) request
+ask_fits form tokens session request a = record {
+  txn = slice_get_within form.txns request.txn a.name a.named;
+  args = ap length a.args;
+  first = subst (λ (l : List Arg). IsTrue (fits64 (first_arg l))) (sym a.args) (val_fits a.pair.first_is);
+  second = subst (λ (l : List Arg). IsTrue (fits64 (second_arg l))) (sym a.args) (val_fits a.pair.second_is);
+}
+
+step_fits : (form : Form) (tokens : List Token) (step : Step) → IsStep form.table form.txns form.sites tokens step → StepFits (document_of_form form) step
+step_fits form tokens (Ask session request) s = let a : IsAsk form.txns tokens session request = s in (a.asks, ask_fits form tokens session request a)
+step_fits form tokens (Deliver site (Blue origin seq)) s = let a : IsDeliver form.sites tokens site origin seq = s in (a.at, a.made, a.numbered)
+step_fits form tokens (Deliver site (Red slot)) s = absurd s
+step_fits form tokens (Show site table) s = let a : IsShow form.sites form.table tokens site table = s in (a.at, a.numbered)
+
+steps_fit : (form : Form) (tokens : List Token) (steps : List Step) → AreMany (IsStep form.table form.txns form.sites) tokens steps → StepsFit (document_of_form form) steps
+steps_fit form tokens [] are = tt
+steps_fit form tokens (step ∷ steps) are = (step_fits form are.front step are.first, steps_fit form are.others steps are.then)
+
+app_numbered : (tokens : List Token) (parts : Parts) (rest : List Token) (replay : Replay) → ReadParts tokens parts rest → HasApp replay parts → IsNumbered replay
+app_numbered tokens parts rest replay r app = record {
+  tables = subst (λ (l : List Table). CountFrom 0 (map (λ table. table.name.num) l)) (sym app.tables) (r.table_numbered, tt);
+  txns = subst (λ (l : List Txn). CountFrom 0 (map (λ txn. txn.name.num) l)) (sym app.txns) r.txns_numbered;
+}
+
+pub parts_replay : (tokens : List Token) (parts : Parts) (rest : List Token) (replay : Replay) → parts_at tokens ≡ Some (parts, rest) → is_whole rest parts ≡ true → Describes replay (form_of_parts parts) → HasApp replay parts
+    → IsReplay tokens replay
+unfolding form_of
+parts_replay tokens parts rest replay is whole d app =
+    let read : form_of tokens ≡ Some (form_of_parts parts) = ap whole_form is ∙ ap (λ b. cond b (Some (form_of_parts parts)) None) whole in
+    let written : IsForm tokens (form_of_parts parts) = form_read tokens (form_of_parts parts) read in
+    record {
+      form = form_of_parts parts;
+      written = written;
+      read = read;
+      describes = d;
+      numbered = app_numbered tokens parts rest replay (parts_read tokens parts rest is) app;
+      sound = subst Sound (sym d.document) (form_sound tokens (form_of_parts parts) written);
+      fit = subst (λ (doc : Document). StepsFit doc replay.steps) (sym d.document)
+          (subst (λ (l : List Step). StepsFit (document_of_form (form_of_parts parts)) l) (sym d.steps) (steps_fit (form_of_parts parts) written.step_part (form_of_parts parts).steps written.steps));
+    }
+
+-- tokens of no form are refused
+no_form : (tokens : List Token) → form_of tokens ≡ None → Answers tokens (Err (Refused at_start))
+no_form tokens none = (refl, none, λ form f. let some : form_of tokens ≡ Some form = form_there tokens form f in absurd cc)
+
+pub parts_refused : (tokens rest : List Token) (stop : Stop) → Reads {A = Parts} (Err stop) rest (parts_at tokens) → Answers tokens (Err stop)
+unfolding form_of
+parts_refused tokens rest (Refused refusal) reads =
+    subst (λ r. Answers tokens (Err (Refused r))) (sym reads.1) (no_form tokens (ap whole_form reads.0))
+parts_refused tokens rest NoMemory reads = tt
+
+pub whole_refused : (tokens : List Token) (parts : Parts) (rest : List Token) → parts_at tokens ≡ Some (parts, rest) → is_whole rest parts ≡ false → Answers tokens (Err (Refused at_start))
+unfolding form_of
+whole_refused tokens parts rest is whole = no_form tokens (ap whole_form is ∙ ap (λ b. cond b (Some (form_of_parts parts)) None) whole)

@@ -1,0 +1,10 @@
+pub mod Answer
+pub mod CanMake
+pub mod Form
+pub mod Grammar
+pub mod Lines
+pub mod ReadDocument
+pub mod Reading
+pub mod ReplayText
+pub mod Replays
+pub mod Statuses

@@ -1,0 +1,99 @@
+ghost use Rattle.std.specs.Prelude.{◌≡◌, ◌≤◌, IfOk};
+ghost use Rattle.sv_tool.specs.Form.{Describes, asks_in};
+ghost use Rattle.sv_tool.specs.Reading.{is_whole, form_of_parts, HasApp};
+ghost use Rattle.sv_tool.specs.Replays.{Answers};
+
+use crate::reader_checks::{asks_in, names_differ, places_differ, shows_in};
+use crate::readers::{Parts, Reader, refused};
+use crate::steps::Replay;
+use std::alloc::Global;
+use sv_app::{App, Stop, Table};
+use sv_core::Doc;
+use sv_lex::{Mark, Token};
+use sv_value::{NoMemory, Packet};
+
+/// The most requests that a document may ask for.
+const MOST_ASKS: usize = 8_192;
+
+/// The most steps of a document that show a table.
+const MOST_SHOWS: usize = 64;
+
+impl Reader<'_> {
+    ghost use Rattle.sv_tool.specs.Reading.{Reads, parts_at};
+
+    /// Reads the parts of a document.
+    #[tactic(auto, unfolding(crate::specs::Reading::parts_at, crate::specs::Reading::after))]
+    fn parts(&mut self, alloc: Global) -> Result<Parts, Stop>
+        ensures { Reads result self.new.rest.now (parts_at self.old.rest.now) }
+    {
+        let _named: Option<Packet> = None;
+        let schema = self.table()?;
+        let txns = self.txns(alloc, &schema)?;
+        self.mark(Mark::Percents)?;
+        self.word(b"init")?;
+        let init = self.rows(alloc, &schema.table.name)?;
+        self.mark(Mark::Percents)?;
+        self.word(b"replay")?;
+        self.word(b"sites")?;
+        self.mark(Mark::Eq)?;
+        let sites = self.number(1, 8)? as u8;
+        let steps = self.steps(alloc, &schema.table.name, txns.items(), sites)?;
+        Ok(Parts {
+            table: schema.table,
+            txns,
+            init,
+            sites,
+            steps,
+        })
+    }
+}
+
+/// Whether nothing is left behind the parts, and they agree with each other and are within the limits.
+fn is_whole(rest: &[Token], parts: &Parts) -> bool
+    ensures { result ≡ is_whole rest.now parts.now }
+{
+    rest.is_empty()
+        && !parts.txns.is_empty()
+        && names_differ(parts.txns.items())
+        && places_differ(parts.init.items())
+        && asks_in(parts.steps.items()) <= MOST_ASKS
+        && shows_in(parts.steps.items()) <= MOST_SHOWS
+}
+
+/// What these parts ask for.
+fn replay_of(alloc: Global, parts: Parts) -> Result<Replay, NoMemory>
+    requires { asks_in parts.steps ≤ 8192 }
+    ensures describes { IfOk result (λ replay. Describes replay (form_of_parts parts)) }
+    ensures app { IfOk result (λ replay. HasApp replay parts) }
+{
+    let _named: Option<Packet> = None;
+    let asks = asks_in(parts.steps.items()) as u32;
+    let mut tables = Vec::new(alloc);
+    tables.push(Table { name: parts.table })?;
+    Ok(Replay {
+        doc: Doc {
+            app: App {
+                tables,
+                txns: parts.txns.into_vec(),
+            },
+            init: parts.init,
+            sites: parts.sites,
+            asks,
+        },
+        steps: parts.steps,
+    })
+}
+
+/// Reads a document of one counter table, its transactions, rows and steps. Tokens of another form are refused at the
+/// first place.
+pub fn read_replay(alloc: Global, tokens: &[Token]) -> Result<Replay, Stop>
+    ensures { Answers tokens.now result }
+{
+    let _named: Option<Packet> = None;
+    let mut reader = Reader { rest: tokens };
+    let parts = reader.parts(alloc)?;
+    if !is_whole(reader.rest, &parts) {
+        return Err(refused());
+    }
+    Ok(replay_of(alloc, parts)?)
+}
