@@ -1,5 +1,5 @@
 -- Reading tokens of given kinds.
-use Rattle.std.proofs.Common.{◌≡◌, ◌∙◌, ℕ, Bool, true, false, List, [], ◌∷◌, ◌++◌, map, Option, Some, None, refl, sym, ap, subst, append_assoc, bytes_eq, cond}
+use Rattle.std.proofs.Common.{◌≡◌, ◌∙◌, Bool, true, false, List, [], ◌∷◌, ◌++◌, Some, None, refl, sym, ap, subst, append_assoc, cond}
 use Rattle.std.proofs.lemmas.Bool.Decides.{Decides-int_eq}
 use Rattle.std.proofs.lemmas.List.{map-append}
 use Rattle.std.proofs.lemmas.Slice.Eq.{bytes_eq-Decides}
@@ -10,7 +10,7 @@ use Rattle.sv_lex.specs.declared.tokens.TokenKind.{TokenKind}
 use Rattle.sv_lex.specs.declared.tokens.TokenKind.TheVariants.{Name, Number, Text, Mark}
 use Rattle.sv_lex.specs.Marks.{mark_bytes, longest_mark}
 use Rattle.sv_tool.specs.Grammar.{kinds}
-use Rattle.sv_tool.specs.Reading.{Read, ◌>>=◌, is_mark, is_kind, is_next, behind, kind_at, after}
+use Rattle.sv_tool.specs.Reading.{Read, ◌>>=◌, is_kind, kind_at, after}
 
 -- tokens of these kinds stand before the rest
 pub record Took (tokens : List Token) (ks : List TokenKind) (rest : List Token) : Type 0 where

@@ -1,6 +1,6 @@
 -- Reading names, numbers and values.
-use Rattle.std.proofs.Common.{◌≡◌, ◌≢◌, ◌∙◌, ℕ, ℤ, pos, negsuc, neg_ℤ, ◌≤◌, Bool, true, false, not, ◌&&◌, ◌||◌, List, [], ◌∷◌, ◌++◌, map, Option, Some, None, refl, sym, ap, subst, append_assoc, bytes_eq, cond, All, arith, IsTrue, nat_le}
-use Rattle.std.proofs.lemmas.Bool.Decides.{Decides-and, Decides-or, leb_tells, nat_tests}
+use Rattle.std.proofs.Common.{◌≡◌, ◌≢◌, ◌∙◌, ℕ, ℤ, pos, negsuc, neg_ℤ, ◌≤◌, Bool, true, false, ◌&&◌, ◌||◌, List, [], ◌∷◌, ◌++◌, Option, Some, None, refl, sym, ap, subst, append_assoc, bytes_eq, cond, All, arith, IsTrue, nat_le}
+use Rattle.std.proofs.lemmas.Bool.Decides.{nat_tests}
 use Rattle.std.proofs.lemmas.List.Elements.{All-nil, All-cons, All-head, All-tail}
 use Rattle.std.proofs.lemmas.Slice.Eq.{bytes_eq-Decides}
 use Rattle.sv_lex.specs.declared.marks.Mark.TheVariants.{LeftParen, RightParen, Comma, Semi, Minus}
@@ -9,9 +9,9 @@ use Rattle.sv_lex.specs.declared.tokens.TokenKind.{TokenKind}
 use Rattle.sv_lex.specs.declared.tokens.TokenKind.TheVariants.{Name, Number, Text, Mark}
 use Rattle.sv_core.specs.Run.{fits64}
 use Rattle.sv_tool.specs.Grammar.{kinds, count, reserved, IsFree, IsWithin, IsVal, Plain, Signed, IsPair}
-use Rattle.sv_tool.specs.Reading.{Read, ◌>>=◌, with_rest, is_kind, is_next, kind_at, after, is_among, schema_words, type_words, block_words, change_words, test_words, is_reserved, name_in, name_at, nat_within, int_in, int_at, number_at, fitting, value_at, pair_at}
+use Rattle.sv_tool.specs.Reading.{Read, ◌>>=◌, with_rest, is_kind, is_next, kind_at, is_among, schema_words, type_words, block_words, change_words, test_words, is_reserved, name_in, name_at, nat_within, int_in, int_at, number_at, fitting, value_at, pair_at}
 use Rattle.sv_tool.specs.declared.readers.Pair.{Pair}
-use Rattle.sv_tool.proofs.KindLaws.{Took, took_then, took_one, same_took, Same, same_read, Bound, bound, kind_taken, on_after, kind_there, after_there}
+use Rattle.sv_tool.proofs.KindLaws.{Took, took_then, took_one, same_took, Same, same_read, bound, kind_taken, on_after, kind_there, after_there}
 
 not_among : (words : List (List ℕ)) (name : List ℕ) → is_among words name ≡ false → All (λ other. name ≢ other) words
 not_among [] name e = All-nil (λ other. name ≢ other)

@@ -1,10 +1,10 @@
 -- Reading many items, against items one after another.
-use Rattle.std.proofs.Common.{◌≡◌, ◌∙◌, ℕ, zero, suc, ◌≤◌, Bool, true, false, List, [], ◌∷◌, ◌++◌, map, length, Option, Some, None, refl, sym, ap, subst, cond, arith, append_assoc}
+use Rattle.std.proofs.Common.{◌≡◌, ◌∙◌, ℕ, zero, suc, ◌≤◌, Bool, true, false, List, [], ◌∷◌, ◌++◌, map, length, Some, refl, sym, ap, subst, cond, arith, append_assoc}
 use Rattle.sv_lex.specs.declared.tokens.Token.{Token}
 use Rattle.sv_tool.specs.Form.{CountFrom}
-use Rattle.sv_tool.specs.Grammar.{IsNext, AreMany}
+use Rattle.sv_tool.specs.Grammar.{AreMany}
 use Rattle.sv_tool.specs.Reading.{Read, ◌>>=◌, ends, many}
-use Rattle.sv_tool.proofs.KindLaws.{Same, same_read, Bound, bound}
+use Rattle.sv_tool.proofs.KindLaws.{Same, same_read, bound}
 
 pub many_few : {A : Type 0} (read : ℕ → List Token → Read A) (first most : ℕ) (tokens : List Token) (xs : List A) (rest : List Token) → many read first most tokens ≡ Some (xs, rest) → length xs ≤ most
 unfolding many

@@ -1,5 +1,5 @@
 -- Items that are read one after another.
-use Rattle.std.proofs.Common.{◌≡◌, ◌∙◌, ℕ, zero, suc, ◌+◌, ◌-◌, ◌<◌, ◌≤◌, Bool, true, false, List, [], ◌∷◌, ◌++◌, Option, Some, None, refl, sym, ap, arith, append_assoc, append-nil}
+use Rattle.std.proofs.Common.{◌≡◌, ◌∙◌, ℕ, zero, suc, ◌+◌, ◌-◌, ◌<◌, ◌≤◌, true, false, List, [], ◌∷◌, ◌++◌, Some, None, refl, sym, ap, arith, append_assoc, append-nil}
 use Rattle.sv_lex.specs.declared.tokens.Token.{Token}
 use Rattle.sv_tool.specs.Reading.{Read, ◌>>=◌, ends, many}
 

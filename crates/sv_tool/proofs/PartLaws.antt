@@ -1,8 +1,7 @@
 -- Reading tables, transactions and rows.
-use Rattle.std.proofs.Common.{◌≡◌, ◌≢◌, ◌∙◌, ℕ, ℤ, Bool, true, false, List, [], ◌∷◌, ◌++◌, Option, Some, None, refl, sym, ap, subst, bytes_eq, cond, codes}
+use Rattle.std.proofs.Common.{◌≡◌, ◌≢◌, ◌∙◌, ℕ, Bool, true, false, List, [], ◌∷◌, ◌++◌, Option, Some, None, refl, sym, ap, subst, bytes_eq, cond, codes}
 use Rattle.std.proofs.lemmas.Slice.Eq.{bytes_eq-Decides}
 use Rattle.sv_value.specs.declared.spots.Spot.{Spot}
-use Rattle.sv_value.specs.declared.values.Val.TheVariants.{Int}
 use Rattle.sv_lex.specs.declared.marks.Mark.TheVariants.{LeftParen, RightParen, LeftBrace, RightBrace, LeftBracket, RightBracket, Comma, Semi, Dot, Colon, Eq, Plus, At}
 use Rattle.sv_lex.specs.declared.tokens.Token.{Token}
 use Rattle.sv_lex.specs.declared.tokens.TokenKind.{TokenKind}
@@ -10,13 +9,12 @@ use Rattle.sv_lex.specs.declared.tokens.TokenKind.TheVariants.{Name, Mark}
 use Rattle.sv_app.specs.declared.apps.Ident.{Ident}
 use Rattle.sv_app.specs.declared.apps.Txn.{Txn}
 use Rattle.sv_app.specs.declared.requests.InitRow.{InitRow}
-use Rattle.sv_core.specs.Run.{key_of}
 use Rattle.sv_tool.specs.declared.readers.Pair.{Pair}
 use Rattle.sv_tool.specs.declared.readers.Schema.{Schema}
 use Rattle.sv_tool.specs.Grammar.{kinds, first_spot, word, IsFree, IsPair, IsTable, IsTxn, IsRow}
-use Rattle.sv_tool.specs.Reading.{Read, ◌>>=◌, after, spot_of, name_at, ident_at, pair_at, table_at, txn_at, row_of, row_at}
+use Rattle.sv_tool.specs.Reading.{Read, ◌>>=◌, spot_of, ident_at, pair_at, table_at, txn_at, row_of, row_at}
 use Rattle.sv_tool.proofs.KindLaws.{Took, took_then, Same, same_read, bound, on_after, after_there, after_stands}
-use Rattle.sv_tool.proofs.LeafLaws.{on_name, on_value, pair_read, name_here, name_there, pair_there, none_there}
+use Rattle.sv_tool.proofs.LeafLaws.{on_name, pair_read, name_here, name_there, pair_there, none_there}
 
 module _ {B G : Type 0} (more : Ident → List Token → Read B) (answer : B) (last : List Token) where
   -- a name with its number is read first

@@ -1,5 +1,5 @@
 -- What the reader answers, by the parts that it read.
-use Rattle.std.proofs.Common.{◌≡◌, ◌∙◌, ℕ, ℤ, ◌<◌, ◌≤◌, Bool, true, false, List, [], ◌∷◌, map, length, Option, Some, None, Ok, Err, refl, sym, ap, subst, cond, All, IsTrue}
+use Rattle.std.proofs.Common.{◌≡◌, ◌∙◌, ℕ, ℤ, true, false, List, [], ◌∷◌, map, length, Some, None, Err, refl, sym, ap, subst, cond, All, IsTrue}
 use Rattle.std.proofs.lemmas.List.Elements.{All-nil, All-cons}
 use Rattle.std.proofs.lemmas.Option.{slice_get_within}
 use Rattle.sv_value.specs.declared.packets.Packet.TheVariants.{Blue, Red}
@@ -12,7 +12,7 @@ use Rattle.sv_app.specs.declared.refusals.Stop.TheVariants.{Refused, NoMemory}
 use Rattle.sv_app.specs.declared.requests.Arg.{Arg}
 use Rattle.sv_app.specs.declared.requests.InitRow.{InitRow}
 use Rattle.sv_app.specs.declared.requests.Request.{Request}
-use Rattle.sv_core.specs.Document.{Document, document_of}
+use Rattle.sv_core.specs.Document.{Document}
 use Rattle.sv_core.specs.Legal.{FitsDoc}
 use Rattle.sv_core.specs.Run.{fits64, first_arg, second_arg}
 use Rattle.sv_core.specs.Sound.{IsInitRow, Sound}

@@ -1,22 +1,20 @@
 -- Reading steps.
-use Rattle.std.proofs.Common.{◌≡◌, ◌≢◌, ◌∙◌, ℕ, ℤ, Bool, true, false, List, [], ◌∷◌, ◌++◌, Option, Some, None, refl, sym, ap, subst, bytes_eq, cond, codes, arith}
+use Rattle.std.proofs.Common.{◌≡◌, ◌∙◌, ℕ, Bool, true, false, List, [], ◌∷◌, ◌++◌, Option, Some, refl, sym, ap, subst, cond, codes, arith}
 use Rattle.std.specs.List.{slice_get}
-use Rattle.sv_value.specs.declared.packets.Packet.{Packet}
 use Rattle.sv_value.specs.declared.packets.Packet.TheVariants.{Blue, Red}
-use Rattle.sv_lex.specs.declared.marks.Mark.TheVariants.{Semi, Percents}
+use Rattle.sv_lex.specs.declared.marks.Mark.TheVariants.{Semi}
 use Rattle.sv_lex.specs.declared.tokens.Token.{Token}
 use Rattle.sv_lex.specs.declared.tokens.TokenKind.{TokenKind}
 use Rattle.sv_lex.specs.declared.tokens.TokenKind.TheVariants.{Name, Number, Text, Mark}
 use Rattle.sv_app.specs.declared.apps.Txn.{Txn}
-use Rattle.sv_app.specs.declared.requests.Arg.TheVariants.{Int as IntArg}
 use Rattle.sv_app.specs.declared.requests.Request.{Request}
 use Rattle.sv_tool.specs.declared.readers.Pair.{Pair}
 use Rattle.sv_tool.specs.declared.steps.Step.{Step}
 use Rattle.sv_tool.specs.declared.steps.Step.TheVariants.{Ask, Deliver, Show}
-use Rattle.sv_tool.specs.Grammar.{kinds, word, count, IsWithin, IsPair, IsAsk, IsDeliver, IsShow, IsStep, AreDifferent}
-use Rattle.sv_tool.specs.Reading.{Read, ◌>>=◌, with_rest, after, is_kind, is_next, number_at, pair_at, txn_in, named_at, request_of, ask_at, deliver_at, show_at, step_at}
-use Rattle.sv_tool.proofs.KindLaws.{Took, took_then, same_took, Same, same_read, bound, on_after, after_there}
-use Rattle.sv_tool.proofs.LeafLaws.{Found, found, on_number, number_there, pair_there, none_there}
+use Rattle.sv_tool.specs.Grammar.{kinds, word, IsWithin, IsAsk, IsDeliver, IsShow, IsStep, AreDifferent}
+use Rattle.sv_tool.specs.Reading.{Read, ◌>>=◌, with_rest, is_kind, is_next, txn_in, named_at, request_of, ask_at, deliver_at, show_at, step_at}
+use Rattle.sv_tool.proofs.KindLaws.{Took, took_then, Same, same_read, bound, on_after, after_there}
+use Rattle.sv_tool.proofs.LeafLaws.{found, on_number, number_there, pair_there, none_there}
 use Rattle.sv_tool.proofs.PartLaws.{on_pair}
 use Rattle.sv_tool.proofs.PlaceLaws.{names_of, place_has, has_place}
 

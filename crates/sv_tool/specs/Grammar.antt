@@ -1,7 +1,6 @@
 -- The grammar of a document of the first form: which tokens are a table, a transaction, a row, a step, and a whole document.
 -- What a token is, is its kind; where it stands matters for the rows alone.
 use Rattle.std.specs.Prelude.{◌≡◌, ◌≢◌, ℕ, ℤ, pos, neg_ℤ, ◌≤◌, List, [], ◌∷◌, ◌++◌, length, map, Option, Some, None, slice_get, All, IsTrue, codes}
-use Rattle.sv_value.specs.declared.packets.Packet.{Packet}
 use Rattle.sv_value.specs.declared.packets.Packet.TheVariants.{Blue, Red}
 use Rattle.sv_value.specs.declared.spots.Spot.{Spot}
 use Rattle.sv_value.specs.declared.values.Val.TheVariants.{Int}

@@ -1,4 +1,4 @@
-use Rattle.std.proofs.Common.{◌≡◌, ◌∙◌, sym}
+use Rattle.std.proofs.Common.{◌∙◌, sym}
 use Rattle.std.proofs.lemmas.Result.{err_from_is_err_and}
 use Rattle.sv_tool.proofs.ReplayLaws.{parts_replay, parts_refused, whole_refused}
 use Rattle.sv_tool.proofs.reader_replays.read_replay.Goals as goal

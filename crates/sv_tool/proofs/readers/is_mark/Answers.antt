@@ -1,9 +1,8 @@
-use Rattle.std.proofs.Common.{◌≡◌, ◌∙◌, Bool, true, false, sym, ap, bytes_eq}
+use Rattle.std.proofs.Common.{◌∙◌, ap, bytes_eq}
 use Rattle.std.proofs.lemmas.Slice.Eq.{bytes_eq-Decides}
 use Rattle.std.proofs.lemmas.Bool.Decides.{same_from_decides}
 use denote.Enum.Bare.{sameb, same_true, true_same}
 use Rattle.sv_lex.specs.contracts.marks.Mark.{the_type}
-use Rattle.sv_lex.specs.declared.marks.Mark.{Mark}
 use Rattle.sv_lex.specs.Marks.{mark_bytes}
 use Rattle.sv_tool.proofs.KindLaws.{same_mark}
 use Rattle.sv_tool.proofs.readers.is_mark.Goals as goal
