@@ -1,4 +1,4 @@
--- What a document of the first form says: the name of its table, the names of its transactions, its initial rows, how many sites it has, and its steps.
+-- What a document of one counter table says: the name of its table, the names of its transactions, its initial rows, how many sites it has, and its steps.
 use Rattle.std.specs.Prelude.{◌≡◌, ℕ, zero, suc, List, [], ◌∷◌, map, length, ⊤}
 use Rattle.sv_app.specs.declared.requests.InitRow.{InitRow}
 use Rattle.sv_core.specs.Document.{Document, document_of}

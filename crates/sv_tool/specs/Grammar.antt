@@ -1,4 +1,4 @@
--- The grammar of a document of the first form: which tokens are a table, a transaction, a row, a step, and a whole document.
+-- The grammar of a document of one counter table: which tokens are a table, a transaction, a row, a step, and a whole document.
 -- What a token is, is its kind; where it stands matters for the rows alone.
 use Rattle.std.specs.Prelude.{◌≡◌, ◌≢◌, ℕ, ℤ, pos, neg_ℤ, ◌≤◌, List, [], ◌∷◌, ◌++◌, length, map, Option, Some, None, slice_get, All, IsTrue, codes}
 use Rattle.sv_value.specs.declared.packets.Packet.TheVariants.{Blue, Red}
