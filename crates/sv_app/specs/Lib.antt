@@ -1,3 +1,12 @@
+pub mod Acceptance
 pub mod CodedTables
 pub mod Codes
+pub mod Conditions
+pub mod Firsts
+pub mod Lookups
+pub mod Numbers
+pub mod References
+pub mod Schema
 pub mod Tables
+pub mod Typing
+pub mod Words

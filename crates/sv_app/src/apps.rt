@@ -1,3 +1,4 @@
+use crate::schemas::Table;
 use sv_value::{Name, Spot};
 
 /// A name where it stands in the document. `num` is the number of what it names.
@@ -6,12 +7,6 @@ pub struct Ident {
     pub name: Name,
     pub spot: Spot,
     pub num: u16,
-}
-
-/// A table of one integer key and one counter.
-#[derive(Debug, Drop)]
-pub struct Table {
-    pub name: Ident,
 }
 
 /// A transaction that adds its second argument to the counter of the row that its first one names.

@@ -7,7 +7,19 @@ use sv_value::{NoMemory, Spot};
 /// Why a document is refused.
 #[derive(Clone, Copy, Debug, PartialEq, Eq)]
 pub enum Code {
+    /// A token that the grammar doesn't allow at its place.
     Syntax,
+    /// A name that stands for nothing.
+    Unknown,
+    /// A name or a key that stands before.
+    Twice,
+    /// A type that isn't allowed at its place.
+    Typing,
+    /// One more than a limit allows.
+    Many,
+    /// Tables that refer to each other in a circle.
+    Cyclic,
+    /// A document of too many bytes.
     TooLong,
 }
 
@@ -18,6 +30,11 @@ impl Code {
     {
         match self {
             Code::Syntax => 1,
+            Code::Unknown => 2,
+            Code::Twice => 3,
+            Code::Typing => 5,
+            Code::Many => 6,
+            Code::Cyclic => 7,
             Code::TooLong => 10,
         }
     }
