@@ -1,0 +1,33 @@
+-- The phases put together, and what the limits say of each table.
+use Rattle.std.proofs.Common.{◌≡◌, ℕ, suc, zero, ◌<◌, ◌≤◌, Bool, true, false, List, [], ◌∷◌, length, get_or, arith, Option, Some, None, subst}
+use Rattle.std.specs.List.{All, find}
+use Rattle.std.specs.Option.{MatchOption}
+use Rattle.std.specs.Prelude.{if◌then◌else◌}
+use Rattle.sv_app.specs.declared.refusals.Refusal.{Refusal}
+use Rattle.sv_app.specs.declared.schemas.Table.{Table}
+use Rattle.sv_app.specs.Acceptance.{IsAccepted, IsRefused, ByCycle}
+use Rattle.sv_app.specs.Conditions.{IsSmallTable}
+use Rattle.sv_app.specs.References.{IsOnCycle, IsCyclic}
+use Rattle.sv_app.specs.Schema.{Declaration, declaration_of, schema_of}
+use Rattle.sv_app.specs.Typing.{faults}
+
+rest_small : (t : Declaration) (ts : List Declaration) → All IsSmallTable (t ∷ ts) → All IsSmallTable ts
+rest_small t ts each k d h = each (suc k) d (omega (arith, h))
+
+pub found_small : (P : Declaration → Bool) (schema : List Declaration) (t : Declaration) → find P schema ≡ Some t → All IsSmallTable schema → IsSmallTable t
+found_small P [] t e each = absurd cc
+found_small P (x ∷ xs) t e each = either (P x) (λ more. found_small P xs t more (rest_small x xs each)) e where
+  either : (b : Bool) → (find P xs ≡ Some t → IsSmallTable t) → (if b then Some x else find P xs) ≡ Some t → IsSmallTable t
+  either true ih e = let same : x ≡ t = cc in subst IsSmallTable same (each 0 x (omega arith))
+  either false ih e = ih e
+
+pub table_small : (tables : List Table) (k : ℕ) (t : Table) → k < length tables → t ≡ get_or tables k t → All IsSmallTable (schema_of tables) → length t.columns.items ≤ 16
+table_small [] k t h e each = absurd (omega (arith, h))
+table_small (x ∷ xs) zero t h e each = rw e (each 0 (declaration_of x) (omega arith)).columns
+table_small (x ∷ xs) (suc k) t h e each = table_small xs k t (omega (arith, h)) e (rest_small (declaration_of x) (schema_of xs) each)
+
+-- where the names and types are right, the references decide
+pub cycles_decide : (schema : List Declaration) (o : Option Refusal) → faults schema ≡ []
+    → MatchOption o ((table : ℕ) → IsOnCycle schema table → ⊥) (λ refusal. IsCyclic schema refusal) → MatchOption o (IsAccepted schema) (λ refusal. IsRefused schema refusal)
+cycles_decide schema None typed free = record { typed = typed; acyclic = free }
+cycles_decide schema (Some refusal) typed cyclic = ByCycle typed cyclic

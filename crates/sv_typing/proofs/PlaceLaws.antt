@@ -1,0 +1,121 @@
+-- Where no name stands twice the first of a name is the one that stands there; a schema gets one refusal.
+use Rattle.std.proofs.Common.{◌≡◌, ◌<◌, nat_lt, ℕ, suc, zero, Bool, true, false, List, [], ◌∷◌, ◌++◌, refl, sym, ap, ◌∙◌, arith, Some, map, subst}
+use Rattle.std.specs.Cmp.Lexicographic.{nat_list_eq_equiv}
+use Rattle.std.specs.List.{slice_get, flat_map}
+use Rattle.std.specs.Option.{option_map, unwrap_or}
+use Rattle.std.proofs.lemmas.Option.{slice_get-map}
+use Rattle.sv_value.specs.declared.spots.Spot.{Spot}
+use Rattle.sv_app.specs.declared.apps.Ident.{Ident}
+use Rattle.sv_app.specs.declared.refusals.Code.{Code}
+use Rattle.sv_app.specs.declared.refusals.Code.TheVariants.{Twice, Cyclic}
+use Rattle.sv_app.specs.declared.refusals.Refusal.{Refusal}
+use Rattle.sv_app.specs.declared.schemas.Column.{Column}
+use Rattle.sv_app.specs.Acceptance.{IsAccepted, IsRefused, ByTyping, ByCycle}
+use Rattle.sv_app.specs.Codes.{number_of}
+use Rattle.sv_app.specs.Firsts.{IsFirst}
+use Rattle.sv_app.specs.References.{IsCyclic}
+use Rattle.sv_typing.proofs.FirstLaws.{first_is_one}
+use Rattle.std.proofs.lemmas.Bool.Decides.{nat_tests}
+use Rattle.sv_app.specs.Lookups.{is_named, place_of, table_names, column_names}
+use Rattle.sv_app.specs.Numbers.{numbered, numbered_in, numbered_table, numbered_column}
+use Rattle.sv_app.specs.Schema.{Declaration}
+use Rattle.sv_app.specs.Typing.{fault_if, repeats, faults, table_faults, key_faults, column_faults, rule_faults}
+
+left_none : {A : Type 0} (a b : List A) → a ++ b ≡ [] → a ≡ []
+left_none [] b e = refl
+left_none (x ∷ a) b e = absurd cc
+
+right_none : {A : Type 0} (a b : List A) → a ++ b ≡ [] → b ≡ []
+right_none [] b e = e
+right_none (x ∷ a) b e = absurd cc
+
+each_none : {T A : Type 0} (f : T → List A) (xs : List T) (k : ℕ) (x : T) → flat_map f xs ≡ [] → slice_get xs k ≡ Some x → f x ≡ []
+each_none f [] k x e s = absurd cc
+each_none f (y ∷ ys) zero x e s = let same : y ≡ x = cc in subst (λ z. f z ≡ []) same (left_none (f y) (flat_map f ys) e)
+each_none f (y ∷ ys) (suc k) x e s = each_none f ys k x (right_none (f y) (flat_map f ys) e) s
+
+fault_none : (b : Bool) (spot : Spot) (code : Code) → fault_if b spot code ≡ [] → b ≡ false
+fault_none true spot code e = absurd cc
+fault_none false spot code e = refl
+
+place_own : (names : List Ident) (k : ℕ) (x : Ident) → repeats names ≡ [] → slice_get names k ≡ Some x → place_of x names ≡ Some k
+place_own [] k x e s = absurd cc
+place_own (y ∷ ys) zero x e s =
+    let same : y ≡ x = cc in
+    let itself : is_named y x ≡ true = subst (λ z. is_named y z ≡ true) same (nat_list_eq_equiv.refl y.name) in
+    rw itself refl
+place_own (y ∷ ys) (suc k) x e s =
+    let seconds : List Refusal = flat_map (λ later. fault_if (is_named later y) later.spot Twice) ys in
+    let apart : is_named x y ≡ false = fault_none (is_named x y) x.spot Twice (each_none (λ later. fault_if (is_named later y) later.spot Twice) ys k x (left_none seconds (repeats ys) e) s) in
+    let other : is_named y x ≡ false = nat_list_eq_equiv.symm y.name x.name ∙ apart in
+    let rest : place_of x ys ≡ Some k = place_own ys k x (right_none seconds (repeats ys) e) s in
+    rw (other, rest) refl
+
+-- what stands at a place of a list that is mapped
+mapped_at : {A B : Type 0} (f : A → B) (xs : List A) (k : ℕ) (y : B) → slice_get (map f xs) k ≡ Some y → (x : A) × (slice_get xs k ≡ Some x) × (f x ≡ y)
+mapped_at f [] k y e = absurd cc
+mapped_at f (x ∷ xs) zero y e = let same : f x ≡ y = cc in (x, refl, same)
+mapped_at f (x ∷ xs) (suc k) y e = mapped_at f xs k y e
+
+map_at : {A B : Type 0} (f : A → B) (xs : List A) (k : ℕ) (x : A) → slice_get xs k ≡ Some x → slice_get (map f xs) k ≡ Some (f x)
+map_at f xs k x s = slice_get-map f xs k ∙ ap (λ o. option_map f o) s
+
+own_number : (names : List Ident) (k : ℕ) (x : Ident) → repeats names ≡ [] → slice_get names k ≡ Some x → (numbered_in names x).num ≡ k
+own_number names k x e s = ap (λ o. unwrap_or o 0) (place_own names k x e s)
+
+pub tables_by_place : (schema : List Declaration) (place : ℕ) (t : Declaration) → IsAccepted schema → slice_get (numbered schema) place ≡ Some t → t.name.num ≡ place
+tables_by_place schema place t accepted s =
+    let found : (u : Declaration) × (slice_get schema place ≡ Some u) × (numbered_table schema u ≡ t) = mapped_at (numbered_table schema) schema place t s in
+    let once : repeats (table_names schema) ≡ [] = left_none (repeats (table_names schema)) (flat_map (λ u. table_faults schema u) schema) accepted.typed in
+    ap (λ (u : Declaration). u.name.num) (sym found.2) ∙ own_number (table_names schema) place found.0.name once (map_at (λ (u : Declaration). u.name) schema place found.0 found.1)
+
+columns_once : (schema : List Declaration) (table : ℕ) (u : Declaration) → faults schema ≡ [] → slice_get schema table ≡ Some u → repeats (column_names u) ≡ []
+columns_once schema table u typed s =
+    let each : flat_map (λ v. table_faults schema v) schema ≡ [] = right_none (repeats (table_names schema)) _ typed in
+    let whole : table_faults schema u ≡ [] = each_none (λ v. table_faults schema v) schema table u each s in
+    let rules : List Refusal = flat_map (λ inv. rule_faults schema u inv.rule) u.invs in
+    let front : key_faults u ++ column_faults u ≡ [] = left_none (key_faults u ++ column_faults u) rules whole in
+    let columns : column_faults u ≡ [] = right_none (key_faults u) (column_faults u) front in
+    left_none (repeats (column_names u)) _ columns
+
+pub columns_by_place : (schema : List Declaration) (table place : ℕ) (t : Declaration) (c : Column) → IsAccepted schema
+    → slice_get (numbered schema) table ≡ Some t → slice_get t.columns place ≡ Some c → c.name.num ≡ place
+columns_by_place schema table place t c accepted s at_place =
+    let found : (u : Declaration) × (slice_get schema table ≡ Some u) × (numbered_table schema u ≡ t) = mapped_at (numbered_table schema) schema table t s in
+    let stands : slice_get (map (numbered_column found.0) found.0.columns) place ≡ Some c = ap (λ (u : Declaration). slice_get u.columns place) found.2 ∙ at_place in
+    let column : (d : Column) × (slice_get found.0.columns place ≡ Some d) × (numbered_column found.0 d ≡ c) = mapped_at (numbered_column found.0) found.0.columns place c stands in
+    let once : repeats (column_names found.0) ≡ [] = columns_once schema table found.0 accepted.typed found.1 in
+    ap (λ (d : Column). d.name.num) (sym column.2) ∙ own_number (column_names found.0) place column.0.name once (map_at (λ (d : Column). d.name) found.0.columns place column.0 column.1)
+
+none_first : (candidates : List Refusal) (refusal : Refusal) → candidates ≡ [] → IsFirst candidates refusal → ⊥
+none_first [] refusal e first = omega (arith, first.is.1)
+none_first (x ∷ xs) refusal e first = cc
+
+pub never_both : (schema : List Declaration) (refusal : Refusal) → IsAccepted schema → IsRefused schema refusal → ⊥
+never_both schema refusal accepted (ByTyping first) = none_first (faults schema) refusal accepted.typed first
+never_both schema refusal accepted (ByCycle typed cycle) = accepted.acyclic cycle.number cycle.cyclic
+
+cyclic_once : (schema : List Declaration) (a b : Refusal) (p : IsCyclic schema a) (q : IsCyclic schema b) → p.number ≡ q.number → a ≡ b
+cyclic_once schema a b p q same =
+    let stands : slice_get schema p.number ≡ Some q.table = ap (slice_get schema) same ∙ q.stands in
+    let tables : p.table ≡ q.table = let both : Some p.table ≡ Some q.table = sym p.stands ∙ stands in cc in
+    p.is ∙ ap (λ (t : Declaration). let r : Refusal = record { spot = t.name.spot; code = Cyclic } in r) tables ∙ sym q.is
+
+same_number : (m n : ℕ) → (m < n → ⊥) → (n < m → ⊥) → m ≡ n
+same_number m n p q = same_by (nat_lt m n) (nat_lt n m) refl refl where
+  same_by : (v w : Bool) → nat_lt m n ≡ v → nat_lt n m ≡ w → m ≡ n
+  same_by true w e f = absurd (p (grind (arith, nat_tests, e)))
+  same_by false true e f = absurd (q (grind (arith, nat_tests, f)))
+  same_by false false e f = grind (arith, nat_tests, e, f)
+
+cycle_is_one : (schema : List Declaration) (a b : Refusal) → IsCyclic schema a → IsCyclic schema b → a ≡ b
+cycle_is_one schema a b p q = cyclic_once schema a b p q (same_number p.number q.number (λ less. q.first p.number less p.cyclic) (λ less. p.first q.number less q.cyclic))
+
+pub refused_once : (schema : List Declaration) (a b : Refusal) → IsRefused schema a → IsRefused schema b
+    → (a.spot.line ≡ b.spot.line) × (a.spot.col ≡ b.spot.col) × (number_of a.code ≡ number_of b.code)
+refused_once schema a b (ByTyping f) (ByTyping g) = first_is_one (faults schema) a b f g
+refused_once schema a b (ByTyping f) (ByCycle typed q) = absurd (none_first (faults schema) a typed f)
+refused_once schema a b (ByCycle typed p) (ByTyping g) = absurd (none_first (faults schema) b typed g)
+refused_once schema a b (ByCycle typed p) (ByCycle more q) =
+    let same : a ≡ b = cycle_is_one schema a b p q in
+    (ap (λ (r : Refusal). r.spot.line) same, ap (λ (r : Refusal). r.spot.col) same, ap (λ (r : Refusal). number_of r.code) same)

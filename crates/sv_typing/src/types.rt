@@ -1,0 +1,32 @@
+ghost use Rattle.std.specs.Prelude.{◌≡◌};
+ghost use Rattle.sv_app.specs.Typing.{is_text, is_int, is_same_type, has_merge_kind, is_numdelta};
+
+use sv_app::{Merge, Ty};
+
+pub fn is_text(ty: Ty) -> bool
+    ensures { result ≡ is_text ty }
+{
+    matches!(ty, Ty::Text)
+}
+
+pub fn is_same_type(ty: Ty, other: Ty) -> bool
+    ensures { result ≡ is_same_type ty other }
+{
+    match ty {
+        Ty::Int => matches!(other, Ty::Int),
+        Ty::Text => matches!(other, Ty::Text),
+        Ty::Ints => matches!(other, Ty::Ints),
+    }
+}
+
+pub fn has_merge_kind(merge: Merge) -> bool
+    ensures { result ≡ has_merge_kind merge }
+{
+    !matches!(merge, Merge::Plain)
+}
+
+pub fn is_numdelta(merge: Merge) -> bool
+    ensures { result ≡ is_numdelta merge }
+{
+    matches!(merge, Merge::NumDelta)
+}
