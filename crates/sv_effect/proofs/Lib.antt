@@ -1,0 +1,16 @@
+pub mod CellLaws
+pub mod CommuteLaws
+pub mod FitLaws
+pub mod GreatestLaws
+pub mod KeptLaws
+pub mod MediumLaws
+pub mod Members
+pub mod MergeLaws
+pub mod PlaceListLaws
+pub mod Promises
+pub mod RowLaws
+pub mod SequenceLaws
+pub mod SumLaws
+pub mod TableLaws
+pub mod TestLaws
+pub mod WriteLaws

@@ -1,0 +1,11 @@
+pub mod Applied
+pub mod Commutes
+pub mod Cut
+pub mod Fits
+pub mod Laws
+pub mod RowChange
+pub mod Sequences
+pub mod StampedTables
+pub mod Suits
+pub mod TablesOfCut
+pub mod Threatened
