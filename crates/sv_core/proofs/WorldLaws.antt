@@ -156,6 +156,26 @@ length-set-at (x ∷ xs) (suc at) new = ap suc (length-set-at xs at new)
 pub place_site : (site place : ℕ) → 1 ≤ site → place ≡ site - 1 → suc place ≡ site
 place_site site place one is = omega (arith, one, is)
 
+-- the state that was read at a site's place is the site's
+pub record IsSiteState (doc : Document) (h : History) (sites : List SiteState) (site : ℕ) (state : SiteState) : Type 0 where
+  pub one : 1 ≤ site
+  pub at : slice_get sites (site - 1) ≡ Some state
+  pub stands : Stands doc h site state
+
+pub site_read : (doc : Document) (h : History) (lists : List (List Op)) (sites : List SiteState) (answers : List ℕ) (capacity site number : ℕ) (state : SiteState)
+    → Keeps doc h lists sites answers capacity → number ≡ site → 1 ≤ number → site ≤ doc.sites → state ≡ get_or sites (number - 1) state → IsSiteState doc h sites site state
+site_read doc h lists sites answers capacity site number state k is from most read = record {
+  one = one;
+  at = at;
+  stands = subst (λ n. Stands doc h n state) (place_site site (site - 1) one refl) (k.sites_are (site - 1) state at);
+}
+  where
+    one : 1 ≤ site
+    one = omega (arith, is, from)
+
+    at : slice_get sites (site - 1) ≡ Some state
+    at = ap (λ n. slice_get sites (n - 1)) (sym is) ∙ read_at sites (number - 1) state (omega (arith, is, one, most, k.sites_long)) read
+
 -- what a packet that is applied finds: its operation, and room for it in the cut and the rows of its site
 pub record CanBring (doc : Document) (h : History) (packet : Packet) (state : SiteState) : Type 0 where
   pub op : Op

@@ -15,7 +15,7 @@ use std::alloc::Global;
 use std::process::Abort;
 use std::sync::Arc;
 use std::test::Fail;
-use sv_app::{App, Arg, Ident, InitRow, Request, Table, Txn};
+use sv_app::{App, Arg, Ident, InitRow, Kind, Request, Table, Txn};
 use sv_value::{Key, List, Name, Packet, Site, Spot, Val};
 
 const HERE: Spot = Spot { line: 1, col: 1 };
@@ -68,6 +68,11 @@ fn app(alloc: Global) -> Result<App, Fail> {
     let mut tables = Vec::new(alloc);
     tables.push(Table {
         name: ident(b"acc")?,
+        kind: Kind::Uoset,
+        columns: Vec::new(alloc),
+        key: Vec::new(alloc),
+        second_key: None,
+        invs: Vec::new(alloc),
     })?;
     let mut txns = Vec::new(alloc);
     txns.push(Txn {

@@ -13,7 +13,7 @@ use Rattle.sv_tool.specs.declared.statuses.Status.TheVariants.{Done}
 use Rattle.sv_tool.specs.declared.steps.Replay.{Replay}
 use Rattle.sv_tool.specs.declared.steps.Step.{Step}
 use Rattle.sv_tool.specs.declared.answers.Answer.{Answer as CodeAnswer}
-use Rattle.sv_app.specs.declared.apps.Table.{Table}
+use Rattle.sv_app.specs.declared.schemas.Table.{Table}
 use Rattle.sv_tool.specs.Form.{Form, document_of_form}
 use Rattle.sv_tool.specs.Grammar.{IsForm}
 use Rattle.sv_tool.specs.Reading.{form_of}

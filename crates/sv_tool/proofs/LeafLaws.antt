@@ -7,9 +7,10 @@ use Rattle.sv_lex.specs.declared.marks.Mark.TheVariants.{LeftParen, RightParen, 
 use Rattle.sv_lex.specs.declared.tokens.Token.{Token}
 use Rattle.sv_lex.specs.declared.tokens.TokenKind.{TokenKind}
 use Rattle.sv_lex.specs.declared.tokens.TokenKind.TheVariants.{Name, Number, Text, Mark}
+use Rattle.sv_app.specs.Words.{is_among, schema_words, type_words, control_words, change_words, is_reserved}
 use Rattle.sv_core.specs.Run.{fits64}
 use Rattle.sv_tool.specs.Grammar.{kinds, count, reserved, IsFree, IsWithin, IsVal, Plain, Signed, IsPair}
-use Rattle.sv_tool.specs.Reading.{Read, ◌>>=◌, with_rest, is_kind, is_next, kind_at, is_among, schema_words, type_words, block_words, change_words, test_words, is_reserved, name_in, name_at, nat_within, int_in, int_at, number_at, fitting, value_at, pair_at}
+use Rattle.sv_tool.specs.Reading.{Read, ◌>>=◌, with_rest, is_kind, is_next, kind_at, name_in, name_at, nat_within, int_in, int_at, number_at, fitting, value_at, pair_at}
 use Rattle.sv_tool.specs.declared.readers.Pair.{Pair}
 use Rattle.sv_tool.proofs.KindLaws.{Took, took_then, took_one, same_took, Same, same_read, bound, kind_taken, on_after, kind_there, after_there}
 
@@ -33,30 +34,27 @@ or_either : (a b c : Bool) → (a || b) || c ≡ a || (b || c)
 or_either true b c = refl
 or_either false b c = refl
 
-or_five : (a b c d e : Bool) → (((a || b) || c) || d) || e ≡ a || (b || (c || (d || e)))
-or_five true b c d e = refl
-or_five false true c d e = refl
-or_five false false true d e = refl
-or_five false false false d e = refl
+or_four : (a b c d : Bool) → ((a || b) || c) || d ≡ a || (b || (c || d))
+or_four true b c d = refl
+or_four false true c d = refl
+or_four false false c d = refl
 
 among_append : (words others : List (List ℕ)) (name : List ℕ) → is_among (words ++ others) name ≡ is_among words name || is_among others name
 among_append [] others name = refl
 among_append (word ∷ words) others name =
     ap (λ b. bytes_eq name word || b) (among_append words others name) ∙ sym (or_either (bytes_eq name word) (is_among words name) (is_among others name))
 
--- five lists joined
-among_five : (a b c d e : List (List ℕ)) (name : List ℕ)
-    → is_among (a ++ (b ++ (c ++ (d ++ e)))) name ≡ is_among a name || (is_among b name || (is_among c name || (is_among d name || is_among e name)))
-among_five a b c d e name =
-    among_append a (b ++ (c ++ (d ++ e))) name ∙ ap (λ r. is_among a name || r) (
-    among_append b (c ++ (d ++ e)) name ∙ ap (λ r. is_among b name || r) (
-    among_append c (d ++ e) name ∙ ap (λ r. is_among c name || r) (among_append d e name)))
+-- four lists joined
+among_four : (a b c d : List (List ℕ)) (name : List ℕ) → is_among (a ++ (b ++ (c ++ d))) name ≡ is_among a name || (is_among b name || (is_among c name || is_among d name))
+among_four a b c d name =
+    among_append a (b ++ (c ++ d)) name ∙ ap (λ r. is_among a name || r) (
+    among_append b (c ++ d) name ∙ ap (λ r. is_among b name || r) (among_append c d name))
 
 reserved_words : (name : List ℕ) → is_reserved name ≡ is_among reserved name
 unfolding is_reserved
 reserved_words name =
-    or_five (is_among schema_words name) (is_among type_words name) (is_among block_words name) (is_among change_words name) (is_among test_words name)
-    ∙ sym (among_five schema_words type_words block_words change_words test_words name)
+    or_four (is_among schema_words name) (is_among type_words name) (is_among control_words name) (is_among change_words name)
+    ∙ sym (among_four schema_words type_words control_words change_words name)
 
 pub is_free : (name : List ℕ) → is_reserved name ≡ false → IsFree name
 is_free name e = not_among reserved name (sym (reserved_words name) ∙ e)

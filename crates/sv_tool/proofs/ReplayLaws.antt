@@ -5,7 +5,8 @@ use Rattle.std.proofs.lemmas.Option.{slice_get_within}
 use Rattle.sv_value.specs.declared.packets.Packet.TheVariants.{Blue, Red}
 use Rattle.sv_lex.specs.declared.tokens.Token.{Token}
 use Rattle.sv_lex.specs.declared.tokens.TokenKind.{TokenKind}
-use Rattle.sv_app.specs.declared.apps.Table.{Table}
+use Rattle.sv_app.specs.declared.schemas.Table.{Table}
+use Rattle.sv_app.specs.declared.apps.Ident.{Ident}
 use Rattle.sv_app.specs.declared.apps.Txn.{Txn}
 use Rattle.sv_app.specs.declared.refusals.Stop.{Stop}
 use Rattle.sv_app.specs.declared.refusals.Stop.TheVariants.{Refused, NoMemory}
@@ -75,9 +76,13 @@ steps_fit : (form : Form) (tokens : List Token) (steps : List Step) → AreMany 
 steps_fit form tokens [] are = tt
 steps_fit form tokens (step ∷ steps) are = (step_fits form are.front step are.first, steps_fit form are.others steps are.then)
 
+name_numbers : (tables : List Table) → map (λ table. table.name.num) tables ≡ map (λ (name : Ident). name.num) (map (λ table. table.name) tables)
+name_numbers [] = refl
+name_numbers (table ∷ tables) = ap (λ (l : List ℕ). table.name.num ∷ l) (name_numbers tables)
+
 app_numbered : (tokens : List Token) (parts : Parts) (rest : List Token) (replay : Replay) → ReadParts tokens parts rest → HasApp replay parts → IsNumbered replay
 app_numbered tokens parts rest replay r app = record {
-  tables = subst (λ (l : List Table). CountFrom 0 (map (λ table. table.name.num) l)) (sym app.tables) (r.table_numbered, tt);
+  tables = subst (CountFrom 0) (sym (name_numbers replay.doc.app.tables.items ∙ ap (λ (l : List Ident). map (λ (name : Ident). name.num) l) app.tables)) (r.table_numbered, tt);
   txns = subst (λ (l : List Txn). CountFrom 0 (map (λ txn. txn.name.num) l)) (sym app.txns) r.txns_numbered;
 }
 

@@ -11,6 +11,7 @@ use Rattle.sv_lex.specs.declared.tokens.TokenKind.TheVariants.{Name, Number, Mar
 use Rattle.sv_app.specs.declared.requests.Arg.TheVariants.{Int as IntArg}
 use Rattle.sv_app.specs.declared.requests.InitRow.{InitRow}
 use Rattle.sv_app.specs.declared.requests.Request.{Request}
+use Rattle.sv_app.specs.Words.{schema_words, type_words, control_words, change_words}
 use Rattle.sv_core.specs.Run.{fits64, key_of}
 use Rattle.sv_core.specs.Sound.{AreDistinct}
 use Rattle.sv_tool.specs.declared.steps.Step.{Step}
@@ -36,11 +37,7 @@ count n = Number (pos n)
 
 -- the words that name nothing
 abbrev pub reserved : List (List ℕ)
-reserved =
-    codes "create" ∷ codes "table" ∷ codes "primary" ∷ codes "key" ∷ codes "unique" ∷ codes "check" ∷ codes "foreign" ∷ codes "references"
-    ∷ codes "in" ∷ codes "int" ∷ codes "text" ∷ codes "ints" ∷ codes "txn" ∷ codes "let" ∷ codes "get" ∷ codes "if" ∷ codes "else" ∷ codes "for"
-    ∷ codes "each" ∷ codes "abort" ∷ codes "reply" ∷ codes "insert" ∷ codes "update" ∷ codes "remove" ∷ codes "set" ∷ codes "where" ∷ codes "and"
-    ∷ codes "or" ∷ codes "not" ∷ codes "old" ∷ []
+reserved = schema_words ++ (type_words ++ (control_words ++ change_words))
 
 -- a name that a document may give
 abbrev pub IsFree : List ℕ → Type 0

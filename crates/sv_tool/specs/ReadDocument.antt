@@ -1,6 +1,6 @@
 -- What the program has of a document that it read: a replay of its form, and the answer that it writes.
 use Rattle.std.specs.Prelude.{◌≡◌, ℕ, List, [], ◌∷◌, Result, Ok, Err, ⊤}
-use Rattle.sv_app.specs.declared.apps.Table.{Table}
+use Rattle.sv_app.specs.declared.schemas.Table.{Table}
 use Rattle.sv_app.specs.declared.refusals.Refusal.{Refusal}
 use Rattle.sv_app.specs.declared.refusals.Stop.{Stop}
 use Rattle.sv_app.specs.declared.refusals.Stop.TheVariants.{Refused, NoMemory}

@@ -15,6 +15,7 @@ use Rattle.sv_app.specs.declared.apps.Ident.{Ident}
 use Rattle.sv_app.specs.declared.apps.Txn.{Txn}
 use Rattle.sv_app.specs.declared.refusals.Code.TheVariants.{Syntax}
 use Rattle.sv_app.specs.declared.refusals.Refusal.{Refusal}
+use Rattle.sv_app.specs.Words.{is_reserved}
 use Rattle.sv_app.specs.declared.refusals.Stop.{Stop}
 use Rattle.sv_app.specs.declared.refusals.Stop.TheVariants.{Refused, NoMemory}
 use Rattle.sv_app.specs.declared.requests.Arg.TheVariants.{Int as IntArg}
@@ -92,29 +93,6 @@ after (wanted ∷ others) tokens more = kind_at wanted tokens >>= λ _ rest. aft
 abbrev pub spot_of : List Token → Spot
 spot_of [] = record { line = 1; col = 1 }
 spot_of (token ∷ rest) = token.spot
-
-abbrev pub is_among : List (List ℕ) → List ℕ → Bool
-is_among [] name = false
-is_among (other ∷ others) name = bytes_eq name other || is_among others name
-
--- the words that name nothing, in five parts
-abbrev pub schema_words : List (List ℕ)
-schema_words = codes "create" ∷ codes "table" ∷ codes "primary" ∷ codes "key" ∷ codes "unique" ∷ codes "check" ∷ []
-
-abbrev pub type_words : List (List ℕ)
-type_words = codes "foreign" ∷ codes "references" ∷ codes "in" ∷ codes "int" ∷ codes "text" ∷ codes "ints" ∷ []
-
-abbrev pub block_words : List (List ℕ)
-block_words = codes "txn" ∷ codes "let" ∷ codes "get" ∷ codes "if" ∷ codes "else" ∷ codes "for" ∷ []
-
-abbrev pub change_words : List (List ℕ)
-change_words = codes "each" ∷ codes "abort" ∷ codes "reply" ∷ codes "insert" ∷ codes "update" ∷ codes "remove" ∷ []
-
-abbrev pub test_words : List (List ℕ)
-test_words = codes "set" ∷ codes "where" ∷ codes "and" ∷ codes "or" ∷ codes "not" ∷ codes "old" ∷ []
-
-unfoldable pub is_reserved : List ℕ → Bool
-is_reserved name = is_among schema_words name || is_among type_words name || is_among block_words name || is_among change_words name || is_among test_words name
 
 -- a name that a document may give
 abbrev pub name_in : TokenKind → Option (List ℕ)
@@ -285,7 +263,7 @@ form_of_parts parts = record {
 
 -- a replay's table and transactions are those of these parts
 pub record HasApp (replay : Replay) (parts : Parts) : Type 0 where
-  pub tables : replay.doc.app.tables.items ≡ record { name = parts.table } ∷ []
+  pub tables : map (λ table. table.name) replay.doc.app.tables.items ≡ parts.table ∷ []
   pub txns : replay.doc.app.txns.items ≡ parts.txns
 
 abbrev pub whole_form : Read Parts → Option Form

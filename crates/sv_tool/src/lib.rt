@@ -5,7 +5,6 @@ mod answers;
 mod laws;
 mod reader_checks;
 mod reader_laws;
-mod reader_names;
 mod reader_parts;
 mod reader_replays;
 mod reader_steps;

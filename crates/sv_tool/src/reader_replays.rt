@@ -7,7 +7,7 @@ use crate::reader_checks::{asks_in, names_differ, places_differ, shows_in};
 use crate::readers::{Parts, Reader, refused};
 use crate::steps::Replay;
 use std::alloc::Global;
-use sv_app::{App, Stop, Table};
+use sv_app::{App, Ident, Kind, Stop, Table};
 use sv_core::Doc;
 use sv_lex::{Mark, Token};
 use sv_value::{NoMemory, Packet};
@@ -60,6 +60,20 @@ fn is_whole(rest: &[Token], parts: &Parts) -> bool
         && shows_in(parts.steps.items()) <= MOST_SHOWS
 }
 
+/// The one table. Its columns aren't listed, since a world of this form keeps one counter for each row.
+fn counter_table(alloc: Global, name: Ident) -> Table
+    ensures { result.name ≡ name }
+{
+    Table {
+        name,
+        kind: Kind::Uoset,
+        columns: Vec::new(alloc),
+        key: Vec::new(alloc),
+        second_key: None,
+        invs: Vec::new(alloc),
+    }
+}
+
 /// What these parts ask for.
 fn replay_of(alloc: Global, parts: Parts) -> Result<Replay, NoMemory>
     requires { asks_in parts.steps ≤ 8192 }
@@ -69,7 +83,7 @@ fn replay_of(alloc: Global, parts: Parts) -> Result<Replay, NoMemory>
     let _named: Option<Packet> = None;
     let asks = asks_in(parts.steps.items()) as u32;
     let mut tables = Vec::new(alloc);
-    tables.push(Table { name: parts.table })?;
+    tables.push(counter_table(alloc, parts.table))?;
     Ok(Replay {
         doc: Doc {
             app: App {

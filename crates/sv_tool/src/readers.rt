@@ -2,9 +2,8 @@ ghost use Rattle.std.specs.Prelude.{◌≡◌, neg_ℤ};
 ghost use Rattle.sv_app.specs.declared.refusals.Stop.TheVariants.{Refused};
 ghost use Rattle.sv_tool.specs.Reading.{at_start, is_mark, Gives, nat_within, fitting};
 
-use crate::reader_names::is_reserved;
 use crate::steps::Step;
-use sv_app::{Code, Ident, InitRow, Refusal, Stop, Txn};
+use sv_app::{Code, Ident, InitRow, Refusal, Stop, Txn, is_reserved};
 use sv_lex::{Mark, Token, TokenKind};
 use sv_value::{List, Name, Spot};
 

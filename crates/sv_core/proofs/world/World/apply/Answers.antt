@@ -1,4 +1,4 @@
-use Rattle.std.proofs.Common.{◌≡◌, ◌≤◌, ◌<◌, ◌-◌, refl, ◌∷◌, length, set, reverse, Some, slice_get, map, sym, ap, subst, ◌∙◌, arith}
+use Rattle.std.proofs.Common.{◌≡◌, ◌≤◌, ◌<◌, ◌-◌, ◌∷◌, length, set, reverse, Some, slice_get, map, sym, ap, subst, ◌∙◌, arith}
 use Rattle.std.proofs.lemmas.List.{length-reverse}
 use Rattle.std.specs.Vec.{vec_capacity}
 use Rattle.sv_value.specs.Cuts.{origin, number}
@@ -9,8 +9,8 @@ use Rattle.sv_core.specs.Document.{document_of}
 use Rattle.sv_core.specs.History.{History, published}
 use Rattle.sv_core.specs.Rows.{CanTake}
 use Rattle.sv_core.specs.World.{delivered}
-use Rattle.sv_core.specs.WorldState.{listed, Stands, Keeps}
-use Rattle.sv_core.proofs.WorldLaws.{listed_is, read_at, place_site, CanBring, can_bring, same_op, keeps_applied, history_room, is_apply, op_inside, reverse_push, keeps_room}
+use Rattle.sv_core.specs.WorldState.{listed, Keeps}
+use Rattle.sv_core.proofs.WorldLaws.{listed_is, read_at, site_read, CanBring, can_bring, same_op, keeps_applied, history_room, is_apply, op_inside, reverse_push, keeps_room}
 use Rattle.sv_core.proofs.RoomLaws.{published_few}
 use Rattle.sv_core.proofs.TakeLaws.{sized}
 use Rattle.sv_core.proofs.world.World.apply.Goals as goal
@@ -32,7 +32,6 @@ bounds-list_of-number c =
     let doc = document_of c.self.inside.doc.value in
     let h : History = reverse c.self.inside.history.items in
     let k = c.self.invariant in
-    let one : 1 ≤ c.args.site = omega (arith, c.number.ensures.value, c.number.ensures.from) in
     let most : c.args.site ≤ doc.sites = subst (λ p. c.args.site ≤ p.doc.sites) (sym c.self.view_is) c.requires.site in
     let applied : delivered doc h c.args.site c.args.packet.now ≡ Applied = subst (λ p. delivered p.doc p.history c.args.site c.args.packet.now ≡ Applied) (sym c.self.view_is) c.requires.applied in
     let ops : c.list_of.result.now ≡ published doc h (origin c.args.packet.now) =
@@ -45,7 +44,6 @@ offset_bounds-list_of-number c =
     let doc = document_of c.self.inside.doc.value in
     let h : History = reverse c.self.inside.history.items in
     let k = c.self.invariant in
-    let one : 1 ≤ c.args.site = omega (arith, c.number.ensures.value, c.number.ensures.from) in
     let most : c.args.site ≤ doc.sites = subst (λ p. c.args.site ≤ p.doc.sites) (sym c.self.view_is) c.requires.site in
     let applied : delivered doc h c.args.site c.args.packet.now ≡ Applied = subst (λ p. delivered p.doc p.history c.args.site c.args.packet.now ≡ Applied) (sym c.self.view_is) c.requires.applied in
     let few : length (published doc h (origin c.args.packet.now)) ≤ doc.asks = published_few doc h (sized doc k.sound) k.legal (origin c.args.packet.now) in
@@ -56,16 +54,10 @@ bring-requires-clause-room c =
     let doc = document_of c.self.inside.doc.value in
     let h : History = reverse c.self.inside.history.items in
     let k = c.self.invariant in
-    let one : 1 ≤ c.args.site = omega (arith, c.number.ensures.value, c.number.ensures.from) in
     let most : c.args.site ≤ doc.sites = subst (λ p. c.args.site ≤ p.doc.sites) (sym c.self.view_is) c.requires.site in
     let applied : delivered doc h c.args.site c.args.packet.now ≡ Applied = subst (λ p. delivered p.doc p.history c.args.site c.args.packet.now ≡ Applied) (sym c.self.view_is) c.requires.applied in
-    let back : c.number.result - 1 ≡ c.args.site - 1 = ap (λ n. n - 1) c.number.ensures.value in
-    let state : slice_get c.self.inside.sites.items (c.args.site - 1) ≡ Some c.index_mut.result.now =
-    ap (slice_get c.self.inside.sites.items) (sym back)
-    ∙ read_at c.self.inside.sites.items (c.number.result - 1) c.index_mut.result.now (omega (arith, c.number.ensures.value, one, most, k.sites_long)) c.index_mut.ensures.value in
-    let s : Stands doc h c.args.site c.index_mut.result.now =
-    subst (λ n. Stands doc h n c.index_mut.result.now) (place_site c.args.site (c.args.site - 1) one refl) (k.sites_are (c.args.site - 1) c.index_mut.result.now state) in
-    let can : CanBring doc h c.args.packet.now c.index_mut.result.now = can_bring doc h c.args.site c.args.packet.now c.index_mut.result.now k.sound k.legal s applied in
+    let read = site_read doc h (map (λ v. v.items) c.self.inside.published.items) c.self.inside.sites.items c.self.inside.answered (vec_capacity c.self.inside.history) c.args.site c.number.result c.index_mut.result.now k c.number.ensures.value c.number.ensures.from most c.index_mut.ensures.value in
+    let can : CanBring doc h c.args.packet.now c.index_mut.result.now = can_bring doc h c.args.site c.args.packet.now c.index_mut.result.now k.sound k.legal read.stands applied in
     can.room
 
 pub bring-requires-clause-rows : goal.bring-requires-clause-rows
@@ -73,19 +65,13 @@ bring-requires-clause-rows c =
     let doc = document_of c.self.inside.doc.value in
     let h : History = reverse c.self.inside.history.items in
     let k = c.self.invariant in
-    let one : 1 ≤ c.args.site = omega (arith, c.number.ensures.value, c.number.ensures.from) in
     let most : c.args.site ≤ doc.sites = subst (λ p. c.args.site ≤ p.doc.sites) (sym c.self.view_is) c.requires.site in
     let applied : delivered doc h c.args.site c.args.packet.now ≡ Applied = subst (λ p. delivered p.doc p.history c.args.site c.args.packet.now ≡ Applied) (sym c.self.view_is) c.requires.applied in
     let ops : c.list_of.result.now ≡ published doc h (origin c.args.packet.now) =
     c.list_of.ensures ∙ ap (λ vs. listed (map (λ v. v.items) vs) c.args.packet.now) c.deref.ensures.value
     ∙ listed_is doc h (map (λ v. v.items) c.self.inside.published.items) k.sound.some k.legal k.lists_long k.lists_are c.args.packet.now in
-    let back : c.number.result - 1 ≡ c.args.site - 1 = ap (λ n. n - 1) c.number.ensures.value in
-    let state : slice_get c.self.inside.sites.items (c.args.site - 1) ≡ Some c.index_mut.result.now =
-    ap (slice_get c.self.inside.sites.items) (sym back)
-    ∙ read_at c.self.inside.sites.items (c.number.result - 1) c.index_mut.result.now (omega (arith, c.number.ensures.value, one, most, k.sites_long)) c.index_mut.ensures.value in
-    let s : Stands doc h c.args.site c.index_mut.result.now =
-    subst (λ n. Stands doc h n c.index_mut.result.now) (place_site c.args.site (c.args.site - 1) one refl) (k.sites_are (c.args.site - 1) c.index_mut.result.now state) in
-    let can : CanBring doc h c.args.packet.now c.index_mut.result.now = can_bring doc h c.args.site c.args.packet.now c.index_mut.result.now k.sound k.legal s applied in
+    let read = site_read doc h (map (λ v. v.items) c.self.inside.published.items) c.self.inside.sites.items c.self.inside.answered (vec_capacity c.self.inside.history) c.args.site c.number.result c.index_mut.result.now k c.number.ensures.value c.number.ensures.from most c.index_mut.ensures.value in
+    let can : CanBring doc h c.args.packet.now c.index_mut.result.now = can_bring doc h c.args.site c.args.packet.now c.index_mut.result.now k.sound k.legal read.stands applied in
     let inside : c.number-in-Ok.result < length c.list_of.result.now = omega (arith, c.number-in-Ok.ensures, op_inside doc h c.args.site c.args.packet.now applied, ap length ops) in
     let op : slice_get (published doc h (origin c.args.packet.now)) (number c.args.packet.now) ≡ Some c.index-list_of-number.result =
     (λ i. slice_get (sym ops i) (sym c.number-in-Ok.ensures i)) ∙ read_at c.list_of.result.now c.number-in-Ok.result c.index-list_of-number.result inside c.index-list_of-number.is in
@@ -104,15 +90,13 @@ invariant_of-self c =
     c.list_of.ensures ∙ ap (λ vs. listed (map (λ v. v.items) vs) c.args.packet.now) c.deref.ensures.value
     ∙ listed_is doc h (map (λ v. v.items) c.self.inside.published.items) k.sound.some k.legal k.lists_long k.lists_are c.args.packet.now in
     let back : c.number.result - 1 ≡ c.args.site - 1 = ap (λ n. n - 1) c.number.ensures.value in
-    let state : slice_get c.self.inside.sites.items (c.args.site - 1) ≡ Some c.index_mut.result.now =
-    ap (slice_get c.self.inside.sites.items) (sym back)
-    ∙ read_at c.self.inside.sites.items (c.number.result - 1) c.index_mut.result.now (omega (arith, c.number.ensures.value, one, most, k.sites_long)) c.index_mut.ensures.value in
+    let read = site_read doc h (map (λ v. v.items) c.self.inside.published.items) c.self.inside.sites.items c.self.inside.answered (vec_capacity c.self.inside.history) c.args.site c.number.result c.index_mut.result.now k c.number.ensures.value c.number.ensures.from most c.index_mut.ensures.value in
     let inside : c.number-in-Ok.result < length c.list_of.result.now = omega (arith, c.number-in-Ok.ensures, op_inside doc h c.args.site c.args.packet.now applied, ap length ops) in
     let op : slice_get (published doc h (origin c.args.packet.now)) (number c.args.packet.now) ≡ Some c.index-list_of-number.result =
     (λ i. slice_get (sym ops i) (sym c.number-in-Ok.ensures i)) ∙ read_at c.list_of.result.now c.number-in-Ok.result c.index-list_of-number.result inside c.index-list_of-number.is in
     let rows : c.bring.new.self.rows ≡ with_changes c.index-list_of-number.result.effects c.index_mut.result.now.rows = c.bring.ensures.rows ∙ ap (λ es. with_changes es c.index_mut.result.now.rows) c.items.ensures in
     let kept = keeps_applied doc h (map (λ v. v.items) c.self.inside.published.items) c.self.inside.sites.items c.self.inside.answered (vec_capacity c.self.inside.history) c.args.site c.args.packet.now
-    c.index-list_of-number.result c.index_mut.result.now c.bring.new.self k one most applied op state c.bring.ensures.cut rows in
+    c.index-list_of-number.result c.index_mut.result.now c.bring.new.self k one most applied op read.at c.bring.ensures.cut rows in
     subst (λ g. Keeps doc g (map (λ v. v.items) c.self.inside.published.items) (set c.self.inside.sites.items (c.number.result - 1) c.bring.new.self) c.self.inside.answered (vec_capacity c.push.new.self))
     (sym (ap reverse c.in-Ok.ensures.items ∙ reverse_push c.self.inside.history.items (Apply c.args.site c.args.packet.now)))
     (keeps_room doc (Apply c.args.site c.args.packet.now ∷ h) (map (λ v. v.items) c.self.inside.published.items) (set c.self.inside.sites.items (c.number.result - 1) c.bring.new.self) c.self.inside.answered (vec_capacity c.self.inside.history) (vec_capacity c.push.new.self) c.in-Ok.ensures.capacity

@@ -1,4 +1,4 @@
-use Rattle.std.proofs.Common.{◌≡◌, ◌+◌, ◌*◌, ◌≤◌, ◌<◌, ◌-◌, ℕ, refl, List, [], ◌∷◌, ◌++◌, length, get_or, set, reverse, map, Some, slice_get, sym, ap, subst, ◌∙◌, arith}
+use Rattle.std.proofs.Common.{◌≡◌, ◌+◌, ◌*◌, ◌≤◌, ◌<◌, ◌-◌, ℕ, List, [], ◌∷◌, ◌++◌, length, get_or, set, reverse, map, Some, slice_get, sym, ap, subst, ◌∙◌, arith}
 use Rattle.std.proofs.lemmas.List.{length-reverse}
 use Rattle.std.specs.Vec.{vec_capacity}
 use Rattle.sv_value.specs.Cuts.{counts, more, origin}
@@ -7,11 +7,11 @@ use Rattle.sv_core.specs.Document.{document_of}
 use Rattle.sv_core.specs.History.{History, answered, published}
 use Rattle.sv_core.specs.Legal.{IsNext}
 use Rattle.sv_core.specs.Rows.{CanTake}
-use Rattle.sv_core.specs.WorldState.{Stands, Keeps, Publishes}
+use Rattle.sv_core.specs.WorldState.{Keeps, Publishes}
 use Rattle.sv_core.proofs.TakeLaws.{sized}
 use Rattle.sv_core.proofs.RoomLaws.{length_few, published_few}
 use Rattle.sv_core.proofs.HistoryLaws.{within}
-use Rattle.sv_core.proofs.WorldLaws.{read_at, place_site, list_at, get-map, length-map-items, map-set-items, history_room, reverse_push, keeps_room}
+use Rattle.sv_core.proofs.WorldLaws.{read_at, site_read, list_at, get-map, length-map-items, map-set-items, history_room, reverse_push, keeps_room}
 use Rattle.sv_core.proofs.AskLaws.{IsNews, is_news, can_publish, keeps_published, keeps_same, count_room}
 use Rattle.sv_core.proofs.world.World.publish.Goals as goal
 
@@ -23,18 +23,12 @@ publish-requires-clause-room c =
     let next : IsNext doc h c.args.entry = subst (λ p. IsNext p.doc p.history c.args.entry) (sym c.self.view_is) c.requires.next in
     let news : IsNews doc h c.args.session c.args.site c.args.op c.args.entry =
     is_news doc h c.args.session c.args.site c.args.op c.args.entry next (subst (λ p. Publishes p.doc p.history c.args.session c.args.site c.args.op c.args.entry) (sym c.self.view_is) c.requires.news) in
-    let one : 1 ≤ c.args.site = omega (arith, c.number.ensures.value, c.number.ensures.from) in
     let most : c.args.site ≤ doc.sites = subst (λ p. c.args.site ≤ p.doc.sites) (sym c.self.view_is) c.requires.site in
-    let back : c.number.result - 1 ≡ c.args.site - 1 = ap (λ n. n - 1) c.number.ensures.value in
-    let state : slice_get c.self.inside.sites.items (c.args.site - 1) ≡ Some c.index_mut.result.now =
-    ap (slice_get c.self.inside.sites.items) (sym back)
-    ∙ read_at c.self.inside.sites.items (c.number.result - 1) c.index_mut.result.now (omega (arith, c.number.ensures.value, one, most, k.sites_long)) c.index_mut.ensures.value in
-    let stands : Stands doc h c.args.site c.index_mut.result.now =
-    subst (λ n. Stands doc h n c.index_mut.result.now) (place_site c.args.site (c.args.site - 1) one refl) (k.sites_are (c.args.site - 1) c.index_mut.result.now state) in
+    let read = site_read doc h (map (λ v. v.items) c.self.inside.published.items) c.self.inside.sites.items c.self.inside.answered (vec_capacity c.self.inside.history) c.args.site c.number.result c.index_mut.result.now k c.number.ensures.value c.number.ensures.from most c.index_mut.ensures.value in
     let packet : origin c.next_packet-packet.result ≡ c.args.site = ap origin c.next_packet-packet.ensures in
     let had = within doc h k.legal c.args.site c.args.site in
     let few : length (published doc h c.args.site) ≤ doc.asks = published_few doc h (sized doc k.sound) k.legal c.args.site in
-    subst (λ o. counts c.index_mut.result.now.cut o < 4294967295) (sym packet) (omega (arith, stands.cut c.args.site, had, few, k.sound.asks))
+    subst (λ o. counts c.index_mut.result.now.cut o < 4294967295) (sym packet) (omega (arith, read.stands.cut c.args.site, had, few, k.sound.asks))
 
 pub publish-requires-clause-rows : goal.publish-requires-clause-rows
 publish-requires-clause-rows c =
@@ -44,15 +38,9 @@ publish-requires-clause-rows c =
     let next : IsNext doc h c.args.entry = subst (λ p. IsNext p.doc p.history c.args.entry) (sym c.self.view_is) c.requires.next in
     let news : IsNews doc h c.args.session c.args.site c.args.op c.args.entry =
     is_news doc h c.args.session c.args.site c.args.op c.args.entry next (subst (λ p. Publishes p.doc p.history c.args.session c.args.site c.args.op c.args.entry) (sym c.self.view_is) c.requires.news) in
-    let one : 1 ≤ c.args.site = omega (arith, c.number.ensures.value, c.number.ensures.from) in
     let most : c.args.site ≤ doc.sites = subst (λ p. c.args.site ≤ p.doc.sites) (sym c.self.view_is) c.requires.site in
-    let back : c.number.result - 1 ≡ c.args.site - 1 = ap (λ n. n - 1) c.number.ensures.value in
-    let state : slice_get c.self.inside.sites.items (c.args.site - 1) ≡ Some c.index_mut.result.now =
-    ap (slice_get c.self.inside.sites.items) (sym back)
-    ∙ read_at c.self.inside.sites.items (c.number.result - 1) c.index_mut.result.now (omega (arith, c.number.ensures.value, one, most, k.sites_long)) c.index_mut.ensures.value in
-    let stands : Stands doc h c.args.site c.index_mut.result.now =
-    subst (λ n. Stands doc h n c.index_mut.result.now) (place_site c.args.site (c.args.site - 1) one refl) (k.sites_are (c.args.site - 1) c.index_mut.result.now state) in
-    subst (λ t. CanTake t c.args.op.effects) (sym stands.rows) (can_publish doc h c.args.session c.args.site c.args.op c.args.entry k.sound (next, k.legal) news)
+    let read = site_read doc h (map (λ v. v.items) c.self.inside.published.items) c.self.inside.sites.items c.self.inside.answered (vec_capacity c.self.inside.history) c.args.site c.number.result c.index_mut.result.now k c.number.ensures.value c.number.ensures.from most c.index_mut.ensures.value in
+    subst (λ t. CanTake t c.args.op.effects) (sym read.stands.rows) (can_publish doc h c.args.session c.args.site c.args.op c.args.entry k.sound (next, k.legal) news)
 
 pub invariant_of-self : goal.invariant_of-self
 invariant_of-self c =
@@ -65,11 +53,7 @@ invariant_of-self c =
     let one : 1 ≤ c.args.site = omega (arith, c.number.ensures.value, c.number.ensures.from) in
     let most : c.args.site ≤ doc.sites = subst (λ p. c.args.site ≤ p.doc.sites) (sym c.self.view_is) c.requires.site in
     let back : c.number.result - 1 ≡ c.args.site - 1 = ap (λ n. n - 1) c.number.ensures.value in
-    let state : slice_get c.self.inside.sites.items (c.args.site - 1) ≡ Some c.index_mut.result.now =
-    ap (slice_get c.self.inside.sites.items) (sym back)
-    ∙ read_at c.self.inside.sites.items (c.number.result - 1) c.index_mut.result.now (omega (arith, c.number.ensures.value, one, most, k.sites_long)) c.index_mut.ensures.value in
-    let stands : Stands doc h c.args.site c.index_mut.result.now =
-    subst (λ n. Stands doc h n c.index_mut.result.now) (place_site c.args.site (c.args.site - 1) one refl) (k.sites_are (c.args.site - 1) c.index_mut.result.now state) in
+    let read = site_read doc h (map (λ v. v.items) c.self.inside.published.items) c.self.inside.sites.items c.self.inside.answered (vec_capacity c.self.inside.history) c.args.site c.number.result c.index_mut.result.now k c.number.ensures.value c.number.ensures.from most c.index_mut.ensures.value in
     let lists = map (λ v. v.items) c.self.inside.published.items in
     let list : c.index_mut-2.result.now.items ≡ published doc h c.args.site =
     list_at doc h c.self.inside.published.items c.args.site c.number.result c.index_mut-2.result.now c.number.ensures.value c.number.ensures.from most k.lists_long k.lists_are c.index_mut-2.ensures.value in
@@ -77,7 +61,7 @@ invariant_of-self c =
     get-map c.self.inside.published.items (c.number.result - 1) c.index_mut-2.result.now
     (read_at c.self.inside.published.items (c.number.result - 1) c.index_mut-2.result.now (omega (arith, c.number.ensures.value, one, most, k.lists_long, length-map-items c.self.inside.published.items)) c.index_mut-2.ensures.value)
     ∙ ap (λ ops. Some ops) (sym c.in_err-publish.ensures.stays) in
-    let state_at : slice_get c.self.inside.sites.items (c.number.result - 1) ≡ Some c.publish.new.self = ap (slice_get c.self.inside.sites.items) back ∙ state ∙ ap (λ s. Some s) (sym c.in_err-publish.ensures.state) in
+    let state_at : slice_get c.self.inside.sites.items (c.number.result - 1) ≡ Some c.publish.new.self = ap (slice_get c.self.inside.sites.items) back ∙ read.at ∙ ap (λ s. Some s) (sym c.in_err-publish.ensures.state) in
     subst (λ l. Keeps doc h l (set c.self.inside.sites.items (c.number.result - 1) c.publish.new.self) c.self.inside.answered (vec_capacity c.self.inside.history))
     (sym (map-set-items c.self.inside.published.items (c.number.result - 1) c.publish.new.published))
     (keeps_same doc h lists c.self.inside.sites.items c.self.inside.answered (vec_capacity c.self.inside.history) (c.number.result - 1) c.publish.new.published.items c.publish.new.self k ops_at state_at)
@@ -123,11 +107,7 @@ invariant_of-self-in-Ok c =
     let one : 1 ≤ c.args.site = omega (arith, c.number.ensures.value, c.number.ensures.from) in
     let most : c.args.site ≤ doc.sites = subst (λ p. c.args.site ≤ p.doc.sites) (sym c.self.view_is) c.requires.site in
     let back : c.number.result - 1 ≡ c.args.site - 1 = ap (λ n. n - 1) c.number.ensures.value in
-    let state : slice_get c.self.inside.sites.items (c.args.site - 1) ≡ Some c.index_mut.result.now =
-    ap (slice_get c.self.inside.sites.items) (sym back)
-    ∙ read_at c.self.inside.sites.items (c.number.result - 1) c.index_mut.result.now (omega (arith, c.number.ensures.value, one, most, k.sites_long)) c.index_mut.ensures.value in
-    let stands : Stands doc h c.args.site c.index_mut.result.now =
-    subst (λ n. Stands doc h n c.index_mut.result.now) (place_site c.args.site (c.args.site - 1) one refl) (k.sites_are (c.args.site - 1) c.index_mut.result.now state) in
+    let read = site_read doc h (map (λ v. v.items) c.self.inside.published.items) c.self.inside.sites.items c.self.inside.answered (vec_capacity c.self.inside.history) c.args.site c.number.result c.index_mut.result.now k c.number.ensures.value c.number.ensures.from most c.index_mut.ensures.value in
     let lists = map (λ v. v.items) c.self.inside.published.items in
     let list : c.index_mut-2.result.now.items ≡ published doc h c.args.site =
     list_at doc h c.self.inside.published.items c.args.site c.number.result c.index_mut-2.result.now c.number.ensures.value c.number.ensures.from most k.lists_long k.lists_are c.index_mut-2.ensures.value in
@@ -141,7 +121,7 @@ invariant_of-self-in-Ok c =
     let cut = subst (λ o. (x : ℕ) → counts c.publish.new.self.cut x ≡ more (counts c.index_mut.result.now.cut) o x) packet c.in_ok-publish.ensures.cut in
     let kept : Keeps doc (c.args.entry ∷ h) new_lists sites new_counts (vec_capacity c.self.inside.history) =
     keeps_published doc h lists new_lists c.self.inside.sites.items c.self.inside.answered (vec_capacity c.self.inside.history) c.args.session c.args.site c.args.op c.args.entry c.index_mut.result.now c.publish.new.self
-    c.self.told k next news one most lists_new state cut c.in_ok-publish.ensures.rows in
+    c.self.told k next news one most lists_new read.at cut c.in_ok-publish.ensures.rows in
     subst (λ g. Keeps doc g new_lists (set c.self.inside.sites.items (c.number.result - 1) c.publish.new.self) new_counts (vec_capacity c.push.new.self))
     (sym (ap reverse c.in-Ok.ensures.items ∙ reverse_push c.self.inside.history.items c.args.entry))
     (keeps_room doc (c.args.entry ∷ h) new_lists (set c.self.inside.sites.items (c.number.result - 1) c.publish.new.self) new_counts (vec_capacity c.self.inside.history) (vec_capacity c.push.new.self) c.in-Ok.ensures.capacity
