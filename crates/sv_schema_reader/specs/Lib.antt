@@ -1,0 +1,5 @@
+pub mod Declarations
+pub mod Grammar
+pub mod Limits
+pub mod Reading
+pub mod Refused
