@@ -48,7 +48,7 @@ zero_type types.Int apart = tt
 zero_type types.Text apart = tt
 zero_type types.Ints apart = absurd (apart refl)
 
-from_fits : (column : Column) (v : Val) (merge : Merge) → column.merge ≡ merge → HasType column.ty v → CellFits column (cell_from merge v)
+pub from_fits : (column : Column) (v : Val) (merge : Merge) → column.merge ≡ merge → HasType column.ty v → CellFits column (cell_from merge v)
 from_fits column v merges.Plain is has = (is, has)
 from_fits column v merges.Lww is has = (is, has)
 from_fits column (Int n) merges.NumDelta is has = is
@@ -75,7 +75,7 @@ pub zero_fits : (table : Declaration) (key : Key) → KeyFits table.columns tabl
     → CellsFit table.columns (cells_from table.columns (zero_values table key))
 zero_fits table key fits none_lists = zeros_fit table key 0 table.columns fits (λ j c e. let n : (0 + j) ≡ j = omega arith in ap (slice_get table.columns) n ∙ e) none_lists
 
-change_kept : (schema : List Declaration) (c : Change) (t : StampedTables) → HasNoLists schema → FitsSchema schema c.value → TablesFit schema t → TablesFit schema (with_change_at schema (place_of c.value) c t)
+pub change_kept : (schema : List Declaration) (c : Change) (t : StampedTables) → HasNoLists schema → FitsSchema schema c.value → TablesFit schema t → TablesFit schema (with_change_at schema (place_of c.value) c t)
 change_kept schema c t none_lists fits tables q row is =
     split (is_place q (place_of c.value)) refl (sym (get-insert place_total t (place_of c.value) (changed_at schema (place_of c.value) c before) q) ∙ is)
   where

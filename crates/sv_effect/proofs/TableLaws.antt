@@ -116,7 +116,7 @@ mark-bare : (annotated present : Bool) (ts : Family (Stamped Bool)) → Bare ts 
 mark-bare true present ts bare = ap (greatest (started present)) (all_to-bare ts 9 bare)
 mark-bare false present ts bare = ap (last (started present)) (bare 0 (omega arith))
 
-row-bare : (annotated : Bool) (columns : List Column) (vs : List Val) (present : Bool) (cs : Family Change) → Bare cs 9 → row_by annotated columns vs present cs ≡ row_from columns vs present
+pub row-bare : (annotated : Bool) (columns : List Column) (vs : List Val) (present : Bool) (cs : Family Change) → Bare cs 9 → row_by annotated columns vs present cs ≡ row_from columns vs present
 row-bare annotated columns vs present cs bare = λ i. record {
   cells = cells-bare 0 columns vs cs bare i;
   mark = mark-bare annotated present (λ o. turns_of (cs o)) (λ o lt. ap turns_of (bare o lt)) i;

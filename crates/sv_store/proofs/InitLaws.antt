@@ -1,0 +1,225 @@
+-- The tables of the initial rows, one row more.
+use Rattle.std.proofs.Common.{◌≡◌, ℕ, zero, suc, ◌+◌, ◌-◌, ◌<◌, ◌≤◌, ◌||◌, if◌then◌else◌, cond, Bool, true, false, List, [], ◌∷◌, ◌++◌, length, take, get_or, Option, Some, None, slice_get, refl, sym, ap, subst, ◌∙◌, arith}
+use Rattle.std.specs.Prelude.{map, All}
+use Rattle.std.proofs.lemmas.List.{take_more, take_all}
+use Rattle.std.proofs.lemmas.Map.Views.{tells_apart}
+use Rattle.std.specs.FinMap.{get, insert, get-insert, get-empty, same_map, empty as empty_tables}
+use Rattle.sv_value.specs.declared.values.Val.{Val}
+use Rattle.sv_app.specs.declared.places.Place.{Place}
+use Rattle.sv_app.specs.declared.requests.InitRow.{InitRow}
+use Rattle.sv_app.specs.declared.schemas.Column.{Column}
+use Rattle.sv_app.specs.declared.schemas.Table.{Table}
+use Rattle.sv_app.specs.Schema.{Declaration, declaration_of, schema_of}
+use Rattle.sv_app.specs.Tables.{place_cmp}
+use Rattle.sv_app.proofs.PlaceLaws.{place_total, exact_places}
+use Rattle.sv_effect.specs.StampedTables.{StampedRow}
+use Rattle.sv_effect.specs.RowChange.{cells_from, row_from}
+use Rattle.sv_effect.specs.Applied.{columns_of, columns_in, annotated_in, zeros_in}
+use Rattle.sv_effect.specs.Fits.{CellsFit}
+use Rattle.sv_effect.specs.Commutes.{TablesFit}
+use Rattle.sv_effect.specs.Cut.{empty}
+use Rattle.sv_effect.specs.TablesOfCut.{is_place, init_place, initial, values_or, is_there, row_at, named_by, all_to, changes_at, tables_held}
+use Rattle.sv_effect.proofs.PlaceListLaws.{among, among-append}
+use Rattle.sv_effect.proofs.KeptLaws.{from_fits}
+use Rattle.sv_effect.proofs.TableLaws.{get-tables_by, row-bare}
+use Rattle.sv_store.specs.Initial.{ValuesFit, InitFits, AreDistinct}
+use Rattle.sv_store.specs.Stored.{Stored, HasRoom, room_after, with_row}
+use Rattle.sv_store.specs.Takes.{IsNarrowSchema}
+use Rattle.sv_store.proofs.TakeLaws.{declared_as, is_declared}
+
+-- the row at a place, of what stands there from the start
+abbrev start_row : List Declaration → Place → Option (List Val) → StampedRow
+start_row schema q o = row_from (columns_in schema q) (values_or (zeros_in schema q) o) (is_there o)
+
+none_named : all_to (λ o. named_by (empty o)) 9 ≡ []
+unfolding all_to
+none_named = refl
+
+or-false : (a : Bool) → (a || false) ≡ a
+or-false true = refl
+or-false false = refl
+
+get-init : (schema : List Declaration) (init : List InitRow) (q : Place)
+    → get (tables_held schema init empty) q ≡ (if among q (map init_place init) then Some (start_row schema q (initial q init)) else None)
+get-init schema init q =
+    get-tables_by (map init_place init ++ all_to (λ o. named_by (empty o)) 9) (row_at schema init empty) q
+    ∙ (λ i. if places i then Some (row i) else None)
+  where
+    places : among q (map init_place init ++ all_to (λ o. named_by (empty o)) 9) ≡ among q (map init_place init)
+    places = among-append q (map init_place init) (all_to (λ o. named_by (empty o)) 9) ∙ ap (λ l. among q (map init_place init) || among q l) none_named ∙ or-false (among q (map init_place init))
+
+    row : row_at schema init empty q ≡ start_row schema q (initial q init)
+    row = row-bare (annotated_in schema q) (columns_in schema q) (values_or (zeros_in schema q) (initial q init)) (is_there (initial q init)) (changes_at q empty) (λ o lt. refl)
+
+abbrev one_more : Place → InitRow → Bool → Option (List Val) → Option (List Val)
+one_more q x b o = if b then o else if is_place q (init_place x) then Some x.values else None
+
+initial-push : (q : Place) (xs : List InitRow) (x : InitRow) → initial q (xs ++ x ∷ []) ≡ one_more q x (among q (map init_place xs)) (initial q xs)
+initial-push q [] x = refl
+initial-push q (y ∷ xs) x = split (is_place q (init_place y)) (initial-push q xs x)
+  where
+    split : (b : Bool) → initial q (xs ++ x ∷ []) ≡ one_more q x (among q (map init_place xs)) (initial q xs)
+        → (if b then Some y.values else initial q (xs ++ x ∷ [])) ≡ one_more q x (b || among q (map init_place xs)) (if b then Some y.values else initial q xs)
+    split true ih = refl
+    split false ih = ih
+
+among-push : (q : Place) (xs : List InitRow) (x : InitRow) → among q (map init_place (xs ++ x ∷ [])) ≡ (among q (map init_place xs) || is_place q (init_place x))
+among-push q [] x = or-false (is_place q (init_place x))
+among-push q (y ∷ xs) x = split (is_place q (init_place y)) (among-push q xs x)
+  where
+    split : (b : Bool) → among q (map init_place (xs ++ x ∷ [])) ≡ (among q (map init_place xs) || is_place q (init_place x))
+        → (b || among q (map init_place (xs ++ x ∷ []))) ≡ ((b || among q (map init_place xs)) || is_place q (init_place x))
+    split true ih = refl
+    split false ih = ih
+
+tables_held-push : (schema : List Declaration) (xs : List InitRow) (x : InitRow) → among (init_place x) (map init_place xs) ≡ false
+    → tables_held schema (xs ++ x ∷ []) empty ≡ insert (tables_held schema xs empty) (init_place x) (start_row schema (init_place x) (Some x.values))
+tables_held-push schema xs x new = same_map place_total exact_places _ _ (λ q.
+    get-init schema (xs ++ x ∷ []) q
+    ∙ (λ i. if among-push q xs x i then Some (start_row schema q (initial-push q xs x i)) else None)
+    ∙ split q (among q (map init_place xs)) (is_place q (init_place x)) refl refl
+    ∙ ap (cond (is_place q (init_place x)) (Some (start_row schema (init_place x) (Some x.values)))) (sym (get-init schema xs q))
+    ∙ sym (get-insert place_total (tables_held schema xs empty) (init_place x) (start_row schema (init_place x) (Some x.values)) q))
+  where
+    split : (q : Place) (a b : Bool) → among q (map init_place xs) ≡ a → is_place q (init_place x) ≡ b
+        → ◌≡◌ {A = Option StampedRow} (if a || b then Some (start_row schema q (if a then initial q xs else if b then Some x.values else None)) else None)
+        (cond b (Some (start_row schema (init_place x) (Some x.values))) (if a then Some (start_row schema q (initial q xs)) else None))
+    split q true true at here =
+        let is : q ≡ init_place x = tells_apart exact_places q (init_place x) here in
+        let twice : among (init_place x) (map init_place xs) ≡ true = subst (λ p. among p (map init_place xs) ≡ true) is at in
+        absurd cc
+    split q true false at here = refl
+    split q false true at here = let is : q ≡ init_place x = tells_apart exact_places q (init_place x) here in ap (λ p. Some (start_row schema p (Some x.values))) is
+    split q false false at here = refl
+
+-- a row's place is none of those before it
+new_place : (init : List InitRow) (i : ℕ) (d : InitRow) → AreDistinct init → i < length init → among (init_place (get_or init i d)) (map init_place (take i init)) ≡ false
+new_place [] i d distinct lt = absurd (omega (arith, lt))
+new_place (y ∷ init) zero d distinct lt = refl
+new_place (y ∷ init) (suc i) d distinct lt = apart (is_place (init_place (get_or init i d)) (init_place y)) refl (new_place init i d distinct.1 (omega (arith, lt)))
+  where
+    apart : (b : Bool) → is_place (init_place (get_or init i d)) (init_place y) ≡ b → among (init_place (get_or init i d)) (map init_place (take i init)) ≡ false
+        → (b || among (init_place (get_or init i d)) (map init_place (take i init))) ≡ false
+    apart true is rest = absurd (distinct.0 i d (omega (arith, lt)) (sym (tells_apart exact_places (init_place (get_or init i d)) (init_place y) is)))
+    apart false is rest = rest
+
+pub init_none : (schema : List Declaration) → empty_tables ≡ tables_held schema [] empty
+init_none schema = same_map place_total exact_places _ _ (λ q. get-empty place_cmp q ∙ sym (get-init schema [] q))
+
+-- the place of the next row is free
+pub init_free : (schema : List Declaration) (init : List InitRow) (i : ℕ) (x : InitRow) → AreDistinct init → i < length init → x ≡ get_or init i x
+    → get (tables_held schema (take i init) empty) (init_place x) ≡ None
+init_free schema init i x distinct lt is =
+    get-init schema (take i init) (init_place x)
+    ∙ ap (λ b. if b then Some (start_row schema (init_place x) (initial (init_place x) (take i init))) else None)
+    (ap (λ y. among (init_place y) (map init_place (take i init))) is ∙ new_place init i x distinct lt)
+
+-- a store that has so many of the initial rows, and room for the others and for more
+pub record Started (schema : List Declaration) (init : List InitRow) (room i : ℕ) (s : Stored) : Type 0 where
+  pub tables : s.tables ≡ tables_held schema (take i init) empty
+  pub left : s.room + i ≡ length init + room
+
+pub init_room : (schema : List Declaration) (init : List InitRow) (room i : ℕ) (s : Stored) (x : InitRow) → AreDistinct init → i < length init → x ≡ get_or init i x
+    → Started schema init room i s → HasRoom (get s.tables (init_place x)) s.room
+init_room schema init room i s x distinct lt is started =
+    let some : 1 ≤ s.room = omega (arith, lt, started.left) in
+    subst (λ o. HasRoom o s.room) (sym (ap (λ t. get t (init_place x)) started.tables ∙ init_free schema init i x distinct lt is)) some
+
+pub init_more : (schema : List Declaration) (init : List InitRow) (room i : ℕ) (s new : Stored) (x : InitRow) (table : Declaration) (p : Place) (row : StampedRow) → AreDistinct init → i < length init
+    → x ≡ get_or init i x → slice_get schema x.table ≡ Some table → Started schema init room i s → p ≡ init_place x → row ≡ row_from table.columns x.values true → new ≡ with_row s p row
+    → Started schema init room (i + 1) new
+init_more schema init room i s new x table p row distinct lt is declared started place start made = record { tables = tables; left = left }
+  where
+    list : take (i + 1) init ≡ take i init ++ x ∷ []
+    list = take_more init i x lt ∙ ap (λ y. take i init ++ y ∷ []) (sym is)
+
+    free : among (init_place x) (map init_place (take i init)) ≡ false
+    free = ap (λ y. among (init_place y) (map init_place (take i init))) is ∙ new_place init i x distinct lt
+
+    row_is : row ≡ start_row schema (init_place x) (Some x.values)
+    row_is = start ∙ ap (λ o. row_from (columns_of o) x.values true) (sym declared)
+
+    tables : new.tables ≡ tables_held schema (take (i + 1) init) empty
+    tables =
+        ap (λ s. s.tables) made
+        ∙ (λ k. insert (started.tables k) (place k) (row_is k))
+        ∙ sym (ap (λ l. tables_held schema l empty) list ∙ tables_held-push schema (take i init) x free)
+
+    none : get s.tables p ≡ None
+    none = (λ k. get (started.tables k) (place k)) ∙ init_free schema init i x distinct lt is
+
+    fewer : new.room ≡ s.room - 1
+    fewer = ap (λ s. s.room) made ∙ ap (λ o. room_after o s.room) none
+
+    left : (new.room + (i + 1)) ≡ (length init + room)
+    left = omega (arith, fewer, lt, started.left)
+
+length-values : (columns : List Column) (vs : List Val) → ValuesFit columns vs → length vs ≡ length columns
+length-values [] [] fits = refl
+length-values [] (v ∷ vs) fits = absurd fits
+length-values (column ∷ columns) [] fits = absurd fits
+length-values (column ∷ columns) (v ∷ vs) fits = ap suc (length-values columns vs fits.1)
+
+same_table : (a b : Declaration) → Some a ≡ Some b → a ≡ b
+same_table a b e = cc
+
+-- what the next row needs
+pub record Ready (tables : List Table) (x : InitRow) (table : Table) : Type 0 where
+  pub declared : slice_get (schema_of tables) x.table ≡ Some (declaration_of table)
+  pub few : length (declaration_of table).columns ≤ 16
+  pub full : length x.values ≡ length (declaration_of table).columns
+
+pub init_bound : (tables : List Table) (init : List InitRow) (i : ℕ) (x : InitRow) → All (InitFits (schema_of tables)) init → i < length init → x ≡ get_or init i x → x.table < length tables
+init_bound tables init i x fits lt is = let fit : InitFits (schema_of tables) x = subst (InitFits (schema_of tables)) (sym is) (fits i x lt) in is_declared tables x.table fit.table fit.declared
+
+pub init_ready : (tables : List Table) (init : List InitRow) (i : ℕ) (x : InitRow) (table : Table) → IsNarrowSchema (schema_of tables) → All (InitFits (schema_of tables)) init → i < length init
+    → x ≡ get_or init i x → table ≡ get_or tables x.table table → Ready tables x table
+init_ready tables init i x table narrow fits lt is at = record {
+  declared = declared;
+  few = narrow x.table (declaration_of table) declared;
+  full = length-values fit.table.columns x.values fit.values ∙ ap (λ t. length t.columns) (same_table fit.table (declaration_of table) (sym fit.declared ∙ declared));
+}
+  where
+    fit : InitFits (schema_of tables) x
+    fit = subst (InitFits (schema_of tables)) (sym is) (fits i x lt)
+
+    declared : slice_get (schema_of tables) x.table ≡ Some (declaration_of table)
+    declared = declared_as tables x.table table (init_bound tables init i x fits lt is) at
+
+cells_fit : (columns : List Column) (vs : List Val) → ValuesFit columns vs → CellsFit columns (cells_from columns vs)
+cells_fit [] [] fits = tt
+cells_fit [] (v ∷ vs) fits = absurd fits
+cells_fit (column ∷ columns) [] fits = absurd fits
+cells_fit (column ∷ columns) (v ∷ vs) fits = (from_fits column v column.merge refl fits.0, cells_fit columns vs fits.1)
+
+initial_fits : (schema : List Declaration) (init : List InitRow) (q : Place) → All (InitFits schema) init → among q (map init_place init) ≡ true
+    → CellsFit (columns_in schema q) (cells_from (columns_in schema q) (values_or (zeros_in schema q) (initial q init)))
+initial_fits schema [] q fits there = absurd cc
+initial_fits schema (x ∷ init) q fits there = split (is_place q (init_place x)) refl there (initial_fits schema init q (λ i d lt. fits (suc i) d (omega (arith, lt))))
+  where
+    fit : InitFits schema x
+    fit = fits 0 x (omega arith)
+
+    split : (b : Bool) → is_place q (init_place x) ≡ b → (b || among q (map init_place init)) ≡ true
+        → (among q (map init_place init) ≡ true → CellsFit (columns_in schema q) (cells_from (columns_in schema q) (values_or (zeros_in schema q) (initial q init))))
+        → CellsFit (columns_in schema q) (cells_from (columns_in schema q) (values_or (zeros_in schema q) (if b then Some x.values else initial q init)))
+    split true here some ih =
+        let is : q ≡ init_place x = tells_apart exact_places q (init_place x) here in
+        subst (λ p. CellsFit (columns_in schema p) (cells_from (columns_in schema p) x.values)) (sym is)
+        (subst (λ o. CellsFit (columns_of o) (cells_from (columns_of o) x.values)) (sym fit.declared) (cells_fit fit.table.columns x.values fit.values))
+    split false here some ih = ih some
+
+same_row : (a b : StampedRow) → Some a ≡ Some b → a ≡ b
+same_row a b e = cc
+
+-- the initial tables are of the schema
+pub init_fit : (schema : List Declaration) (init : List InitRow) → All (InitFits schema) init → TablesFit schema (tables_held schema init empty)
+init_fit schema init fits q row is = split (among q (map init_place init)) refl (sym (get-init schema init q) ∙ is)
+  where
+    split : (b : Bool) → among q (map init_place init) ≡ b → (if b then Some (start_row schema q (initial q init)) else None) ≡ Some row → CellsFit (columns_in schema q) row.cells
+    split true there e = subst (λ r. CellsFit (columns_in schema q) r.cells) (same_row (start_row schema q (initial q init)) row e) (initial_fits schema init q fits there)
+    split false there e = absurd cc
+
+pub started_fit : (schema : List Declaration) (init : List InitRow) (room i : ℕ) (s : Stored) → All (InitFits schema) init → Started schema init room i s → length init ≤ i → TablesFit schema s.tables
+started_fit schema init room i s fits started le =
+    subst (TablesFit schema) (sym (started.tables ∙ ap (λ l. tables_held schema l empty) (take_all i init le))) (init_fit schema init fits)

@@ -1,0 +1,6 @@
+pub mod CellLaws
+pub mod ChangeLaws
+pub mod InitLaws
+pub mod RowLaws
+pub mod StoreLaws
+pub mod TakeLaws

@@ -1,0 +1,157 @@
+-- What the changes of an operation need, and that it stands after the first of them for the others.
+use Rattle.std.proofs.Common.{◌≡◌, ℕ, zero, suc, ◌+◌, ◌<◌, ◌≤◌, false, List, [], ◌∷◌, length, get_or, drop, Option, Some, None, slice_get, refl, sym, ap, subst, ◌∙◌, arith}
+use Rattle.std.specs.Prelude.{unwrap_or}
+use Rattle.std.specs.FinMap.{get}
+use Rattle.std.specs.FinMap as map_of
+use Rattle.std.proofs.lemmas.List.{drop_more}
+use Rattle.sv_value.specs.declared.stamps.Stamp.{Stamp}
+use Rattle.sv_app.specs.declared.acts.Act.{Act}
+use Rattle.sv_app.specs.declared.acts.Act.TheVariants.{Insert, Update, Remove}
+use Rattle.sv_app.specs.declared.schemas.Table.{Table}
+use Rattle.sv_app.specs.Schema.{Declaration, declaration_of, schema_of}
+use Rattle.sv_effect.specs.declared.ops.RowEffect.{RowEffect}
+use Rattle.sv_effect.specs.declared.ops.Op.{Op}
+use Rattle.sv_effect.specs.StampedTables.{StampedRow, StampedTables}
+use Rattle.sv_effect.specs.RowChange.{changed, row_from, zero_row}
+use Rattle.sv_effect.specs.Applied.{Change, place_of, changes_from, columns_of, annotation_of, zeros_of, with_change_at, with_changes}
+use Rattle.sv_effect.specs.Fits.{FitsSchema, AllFit, ChangeFits, CellsFit, CountsFit}
+use Rattle.sv_effect.specs.Commutes.{TablesFit}
+use Rattle.sv_effect.specs.Laws.{HasNoLists}
+use Rattle.sv_effect.proofs.KeptLaws.{zero_fits, change_kept}
+use Rattle.sv_store.specs.Stored.{Stored, HasRoom, room_after, with_row}
+use Rattle.sv_store.specs.Takes.{standing, left_by, IsNarrowSchema, row_left, KeepsBounds, IsFound, FindsRows, as_insert, inserts}
+
+abbrev pub stamp_at : Op → ℕ → Stamp
+stamp_at op n = record { time = op.time; site = op.site; place = n }
+
+abbrev pub change_at : Op → ℕ → RowEffect → Change
+change_at op n e = record { value = e; stamp = stamp_at op n }
+
+-- what the changes from a number on need
+pub record Takes (schema : List Declaration) (op : Op) (n : ℕ) (es : List RowEffect) (s : Stored) : Type 0 where
+  pub rows : TablesFit schema s.tables
+  pub fits : AllFit schema es
+  pub found : FindsRows schema (changes_from op n es) s.tables
+  pub counts : KeepsBounds schema (changes_from op n es) s.tables
+  pub room : inserts es ≤ s.room
+
+-- the row that a change leaves, by the declaration of its table
+by_table : (schema : List Declaration) (table : Declaration) (op : Op) (n : ℕ) (e : RowEffect) (t : StampedTables) → slice_get schema e.table ≡ Some table
+    → row_left schema (change_at op n e) t ≡ left_by table (stamp_at op n) e t
+by_table schema table op n e t declared =
+    ap (λ o. changed (annotation_of o) (stamp_at op n) e (unwrap_or (get t (place_of e)) (row_from (columns_of o) (zeros_of o e.key) false))) declared
+
+same_table : (a b : Declaration) → Some a ≡ Some b → a ≡ b
+same_table a b e = cc
+
+-- what one change needs
+pub record Needs (table : Declaration) (stamp : Stamp) (e : RowEffect) (s : Stored) : Type 0 where
+  pub few : length table.columns ≤ 16
+  pub change : ChangeFits table e
+  pub row : CellsFit table.columns (standing table e s.tables).cells
+  pub counts : CountsFit (left_by table stamp e s.tables).cells
+  pub room : HasRoom (get s.tables (place_of e)) s.room
+
+has_room : (act : Act) (o : Option StampedRow) (room n : ℕ) → IsFound act o → as_insert act + n ≤ room → HasRoom o room
+has_room Insert None room n found le = omega (arith, le)
+has_room Update None room n found le = absurd found
+has_room Remove None room n found le = absurd found
+has_room act (Some row) room n found le = tt
+
+rest_room : (act : Act) (o : Option StampedRow) (room n : ℕ) → IsFound act o → as_insert act + n ≤ room → n ≤ room_after o room
+rest_room Insert None room n found le = omega (arith, le)
+rest_room Update None room n found le = absurd found
+rest_room Remove None room n found le = absurd found
+rest_room act (Some row) room n found le = omega (arith, le)
+
+pub first_needs : (schema : List Declaration) (op : Op) (n : ℕ) (e : RowEffect) (es : List RowEffect) (s : Stored) (table : Declaration) → IsNarrowSchema schema → HasNoLists schema
+    → slice_get schema e.table ≡ Some table → Takes schema op n (e ∷ es) s → Needs table (stamp_at op n) e s
+first_needs schema op n e es s table narrow none_lists declared takes = record {
+  few = narrow e.table table declared;
+  change = change;
+  row = start (get s.tables (place_of e)) refl;
+  counts = subst (λ row. CountsFit row.cells) (by_table schema table op n e s.tables declared) takes.counts.0;
+  room = has_room e.act (get s.tables (place_of e)) s.room (inserts es) takes.found.0 takes.room;
+}
+  where
+    change : ChangeFits table e
+    change = subst (λ t. ChangeFits t e) (same_table takes.fits.0.table table (sym takes.fits.0.declared ∙ declared)) takes.fits.0.fits
+
+    start : (o : Option StampedRow) → get s.tables (place_of e) ≡ o → CellsFit table.columns (unwrap_or o (zero_row table e.key)).cells
+    start None is = zero_fits table e.key change.key (λ j column at. none_lists e.table j table column declared at)
+    start (Some x) is = subst (λ cs. CellsFit cs x.cells) (ap columns_of declared) (takes.rows (place_of e) x is)
+
+-- the store after the first change
+abbrev pub after_first : Declaration → Op → ℕ → RowEffect → Stored → Stored
+after_first table op n e s = with_row s (place_of e) (left_by table (stamp_at op n) e s.tables)
+
+first_made : (schema : List Declaration) (op : Op) (n : ℕ) (e : RowEffect) (s : Stored) (table : Declaration) → slice_get schema e.table ≡ Some table
+    → with_change_at schema (place_of e) (change_at op n e) s.tables ≡ (after_first table op n e s).tables
+first_made schema op n e s table declared = ap (map_of.insert s.tables (place_of e)) (by_table schema table op n e s.tables declared)
+
+pub rest_takes : (schema : List Declaration) (op : Op) (n : ℕ) (e : RowEffect) (es : List RowEffect) (s : Stored) (table : Declaration) → HasNoLists schema
+    → slice_get schema e.table ≡ Some table → Takes schema op n (e ∷ es) s → Takes schema op (suc n) es (after_first table op n e s)
+rest_takes schema op n e es s table none_lists declared takes = record {
+  rows = subst (TablesFit schema) made (change_kept schema (change_at op n e) s.tables none_lists takes.fits.0 takes.rows);
+  fits = takes.fits.1;
+  found = subst (FindsRows schema (changes_from op (suc n) es)) made takes.found.1;
+  counts = subst (KeepsBounds schema (changes_from op (suc n) es)) made takes.counts.1;
+  room = rest_room e.act (get s.tables (place_of e)) s.room (inserts es) takes.found.0 takes.room;
+}
+  where
+    made : with_change_at schema (place_of e) (change_at op n e) s.tables ≡ (after_first table op n e s).tables
+    made = first_made schema op n e s table declared
+
+pub rest_made : (schema : List Declaration) (op : Op) (n : ℕ) (e : RowEffect) (es : List RowEffect) (s : Stored) (table : Declaration) → slice_get schema e.table ≡ Some table
+    → with_changes schema (changes_from op n (e ∷ es)) s.tables ≡ with_changes schema (changes_from op (suc n) es) (after_first table op n e s).tables
+rest_made schema op n e es s table declared = ap (with_changes schema (changes_from op (suc n) es)) (first_made schema op n e s table declared)
+
+-- a table by its number
+pub declared_at : (tables : List Table) (n : ℕ) (d : Table) → n < length tables → slice_get (schema_of tables) n ≡ Some (declaration_of (get_or tables n d))
+declared_at [] n d lt = absurd (omega (arith, lt))
+declared_at (table ∷ tables) zero d lt = refl
+declared_at (table ∷ tables) (suc n) d lt = declared_at tables n d (omega (arith, lt))
+
+pub is_declared : (tables : List Table) (n : ℕ) (table : Declaration) → slice_get (schema_of tables) n ≡ Some table → n < length tables
+is_declared [] n table e = absurd cc
+is_declared (x ∷ tables) zero table e = omega arith
+is_declared (x ∷ tables) (suc n) table e = omega (arith, is_declared tables n table e)
+
+-- the turn of one change
+takes_at : (schema : List Declaration) (op : Op) (i : ℕ) (e : RowEffect) (s : Stored) → i < length op.effects → e ≡ get_or op.effects i e → Takes schema op i (drop i op.effects) s
+    → Takes schema op i (e ∷ drop (i + 1) op.effects) s
+takes_at schema op i e s lt is takes = subst (λ es. Takes schema op i es s) (drop_more op.effects i e lt ∙ ap (λ x. x ∷ drop (i + 1) op.effects) (sym is)) takes
+
+pub turn_bound : (tables : List Table) (op : Op) (i : ℕ) (e : RowEffect) (s : Stored) → i < length op.effects → e ≡ get_or op.effects i e → Takes (schema_of tables) op i (drop i op.effects) s
+    → e.table < length tables
+turn_bound tables op i e s lt is takes = let fits : FitsSchema (schema_of tables) e = (takes_at (schema_of tables) op i e s lt is takes).fits.0 in is_declared tables e.table fits.table fits.declared
+
+pub declared_as : (tables : List Table) (n : ℕ) (table : Table) → n < length tables → table ≡ get_or tables n table → slice_get (schema_of tables) n ≡ Some (declaration_of table)
+declared_as tables n table lt is = declared_at tables n table lt ∙ ap (λ t. Some (declaration_of t)) (sym is)
+
+pub turn_needs : (tables : List Table) (op : Op) (i : ℕ) (e : RowEffect) (s : Stored) (table : Table) → IsNarrowSchema (schema_of tables) → HasNoLists (schema_of tables)
+    → i < length op.effects → e ≡ get_or op.effects i e → table ≡ get_or tables e.table table → Takes (schema_of tables) op i (drop i op.effects) s
+    → Needs (declaration_of table) (stamp_at op i) e s
+turn_needs tables op i e s table narrow none_lists lt is at takes =
+    first_needs (schema_of tables) op i e (drop (i + 1) op.effects) s (declaration_of table) narrow none_lists
+    (declared_as tables e.table table (turn_bound tables op i e s lt is takes) at) (takes_at (schema_of tables) op i e s lt is takes)
+
+-- the store that the turn leaves takes the rest, which makes the same of it
+pub turn_takes : (tables : List Table) (op : Op) (i : ℕ) (e : RowEffect) (s new : Stored) (table : Table) → HasNoLists (schema_of tables)
+    → i < length op.effects → e ≡ get_or op.effects i e → table ≡ get_or tables e.table table → Takes (schema_of tables) op i (drop i op.effects) s
+    → new ≡ after_first (declaration_of table) op i e s → Takes (schema_of tables) op (i + 1) (drop (i + 1) op.effects) new
+turn_takes tables op i e s new table none_lists lt is at takes made =
+    let n : suc i ≡ (i + 1) = omega arith in
+    subst (λ k. Takes (schema_of tables) op k (drop (i + 1) op.effects) new) n
+    (subst (Takes (schema_of tables) op (suc i) (drop (i + 1) op.effects)) (sym made)
+    (rest_takes (schema_of tables) op i e (drop (i + 1) op.effects) s (declaration_of table) none_lists
+    (declared_as tables e.table table (turn_bound tables op i e s lt is takes) at) (takes_at (schema_of tables) op i e s lt is takes)))
+
+pub turn_made : (tables : List Table) (op : Op) (i : ℕ) (e : RowEffect) (s new : Stored) (table : Table) → i < length op.effects → e ≡ get_or op.effects i e
+    → table ≡ get_or tables e.table table → Takes (schema_of tables) op i (drop i op.effects) s → new ≡ after_first (declaration_of table) op i e s
+    → with_changes (schema_of tables) (changes_from op (i + 1) (drop (i + 1) op.effects)) new.tables ≡ with_changes (schema_of tables) (changes_from op i (drop i op.effects)) s.tables
+turn_made tables op i e s new table lt is at takes made =
+    let n : (i + 1) ≡ suc i = omega arith in
+    (λ k. with_changes (schema_of tables) (changes_from op (n k) (drop (i + 1) op.effects)) (made k).tables)
+    ∙ sym (rest_made (schema_of tables) op i e (drop (i + 1) op.effects) s (declaration_of table) (declared_as tables e.table table (turn_bound tables op i e s lt is takes) at))
+    ∙ ap (λ es. with_changes (schema_of tables) (changes_from op i es) s.tables) (sym (drop_more op.effects i e lt ∙ ap (λ x. x ∷ drop (i + 1) op.effects) (sym is)))

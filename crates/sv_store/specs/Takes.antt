@@ -1,0 +1,54 @@
+-- What a store asks of an operation: rows that are updated or removed are there, counts stay in their bounds, and there is room for the inserts.
+use Rattle.std.specs.Prelude.{◌≡◌, ℕ, ◌+◌, ◌≤◌, List, [], ◌∷◌, length, Option, Some, None, unwrap_or, slice_get}
+use Rattle.std.specs.FinMap.{get}
+use Rattle.sv_value.specs.declared.stamps.Stamp.{Stamp}
+use Rattle.sv_app.specs.declared.acts.Act.{Act}
+use Rattle.sv_app.specs.declared.acts.Act.TheVariants.{Insert, Update, Remove}
+use Rattle.sv_app.specs.Schema.{Declaration}
+use Rattle.sv_effect.specs.declared.ops.RowEffect.{RowEffect}
+use Rattle.sv_effect.specs.StampedTables.{StampedRow, StampedTables}
+use Rattle.sv_effect.specs.RowChange.{changed, is_annotated, zero_row}
+use Rattle.sv_effect.specs.Applied.{Change, place_of, zero_row_in, changed_at, with_change_at}
+use Rattle.sv_effect.specs.Fits.{CountsFit}
+
+-- the row that a change starts from, and the row that it leaves
+abbrev pub standing : Declaration → RowEffect → StampedTables → StampedRow
+standing table e t = unwrap_or (get t (place_of e)) (zero_row table e.key)
+
+abbrev pub left_by : Declaration → Stamp → RowEffect → StampedTables → StampedRow
+left_by table s e t = changed (is_annotated table.kind) s e (standing table e t)
+
+-- no table has more than 16 columns
+abbrev pub IsNarrowSchema : List Declaration → Type 0
+IsNarrowSchema schema = (number : ℕ) (table : Declaration) → slice_get schema number ≡ Some table → length table.columns ≤ 16
+
+abbrev pub row_left : List Declaration → Change → StampedTables → StampedRow
+row_left schema c t = changed_at schema (place_of c.value) c (unwrap_or (get t (place_of c.value)) (zero_row_in schema (place_of c.value)))
+
+-- each count that one of the changes leaves lies in its bounds
+abbrev pub KeepsBounds : List Declaration → List Change → StampedTables → Type 0
+KeepsBounds schema [] t = Unit {0}
+KeepsBounds schema (c ∷ cs) t = CountsFit (row_left schema c t).cells × KeepsBounds schema cs (with_change_at schema (place_of c.value) c t)
+
+-- an update or a remove is of a row that is kept
+abbrev pub IsFound : Act → Option StampedRow → Type 0
+IsFound Insert o = Unit {0}
+IsFound Update None = ⊥
+IsFound Update (Some row) = Unit {0}
+IsFound Remove None = ⊥
+IsFound Remove (Some row) = Unit {0}
+
+-- each of the changes finds its row, where earlier ones may have inserted it
+abbrev pub FindsRows : List Declaration → List Change → StampedTables → Type 0
+FindsRows schema [] t = Unit {0}
+FindsRows schema (c ∷ cs) t = IsFound c.value.act (get t (place_of c.value)) × FindsRows schema cs (with_change_at schema (place_of c.value) c t)
+
+-- how many of the changes insert
+abbrev pub as_insert : Act → ℕ
+as_insert Insert = 1
+as_insert Update = 0
+as_insert Remove = 0
+
+abbrev pub inserts : List RowEffect → ℕ
+inserts [] = 0
+inserts (e ∷ es) = as_insert e.act + inserts es

@@ -1,0 +1,10 @@
+//! Stores: each site's rows, as lists of rows in the order of their places.
+#![tactic(auto)]
+
+mod rows;
+mod stores;
+#[cfg(test)]
+mod tests;
+
+pub use rows::KeptRow;
+pub use stores::ListStore;
