@@ -1,5 +1,6 @@
 pub mod AnswerLaws
 pub mod AppendLaws
+pub mod CheckLaws
 pub mod DistinctLaws
 pub mod FitLaws
 pub mod FormLaws

@@ -1,5 +1,7 @@
 pub mod Answer
 pub mod CanMake
+pub mod CheckText
+pub mod Commands
 pub mod Form
 pub mod Grammar
 pub mod Lines

@@ -1,4 +1,4 @@
-ghost use Rattle.std.specs.Prelude.{◌≡◌, ◌≤◌, ◌⊎◌, ◌++◌, [], Err, IfOk, IsErrOf, IfSome, MatchOption, length, codes};
+ghost use Rattle.std.specs.Prelude.{◌≡◌, ◌≤◌, ◌⊎◌, ◌++◌, [], List, Err, IfOk, IsErrOf, IfSome, MatchOption, length, codes};
 ghost use Rattle.std.specs.Io.KnownBytes.{IsAtEnd};
 ghost use Rattle.sv_io.specs.Faults.{Rose};
 ghost use Rattle.sv_io.specs.Flows.{most_bytes};
@@ -11,14 +11,20 @@ ghost use Rattle.sv_lex.specs.Lexers.{fault_of};
 ghost use Rattle.sv_tool.specs.ReplayText.{steps_text};
 ghost use Rattle.sv_tool.specs.ReadDocument.{table_name, ReadsAs, said_by};
 ghost use Rattle.sv_tool.specs.CanMake.{CanMakeAll};
+ghost use Rattle.sv_app.specs.Schema.{Declaration};
+ghost use Rattle.sv_tool.specs.CheckText.{IsDocument, accepted_with};
+ghost use Rattle.sv_tool.specs.Commands.{IsAnswerOf};
+ghost use Rattle.sv_tool.specs.declared.words.Command.TheVariants.{Check};
 ghost use Rattle.sv_tool.specs.declared.statuses.Status.TheVariants.{Done, Refused};
 ghost use Rattle.sv_tool.specs.Answer.{at_the_front, answer_to, form_answer, form_among};
 
+use crate::checks::check_answer;
 use crate::reader_replays::read_replay;
 use crate::replays::make_steps;
 use crate::statuses::Status;
 use crate::steps::Replay;
 use crate::texts::{put_bytes, put_refusal};
+use crate::words::Command;
 use std::alloc::Global;
 use std::sync::Arc;
 use sv_app::{Code, Refusal, Stop};
@@ -64,7 +70,7 @@ fn at_the_front(code: Code) -> Refusal
 }
 
 /// The answer to a document that is refused.
-fn refusal_answer(alloc: Global, refusal: &Refusal) -> Result<Answer, NoMemory>
+pub fn refusal_answer(alloc: Global, refusal: &Refusal) -> Result<Answer, NoMemory>
     ensures { IfOk result (λ answer. said_by answer ≡ form_answer (Err refusal.now)) }
 {
     let mut text = Vec::new(alloc);
@@ -147,19 +153,38 @@ fn answer_to(alloc: Global, bytes: &[u8]) -> Result<Answer, NoMemory>
     }
 }
 
+/// The answer of a command to a document of at most 1,048,576 bytes.
+fn answer_of(alloc: Global, command: Command, bytes: &[u8]) -> Result<Answer, NoMemory>
+    requires { length bytes.now ≤ most_bytes }
+    ensures answer { IfOk result (λ answer. IsAnswerOf command bytes.now (said_by answer)) }
+    ensures accepted { (schema : List Declaration) → command ≡ Check → IsDocument bytes.now schema → IfOk result (λ answer. said_by answer ≡ accepted_with (length schema)) }
+{
+    match command {
+        Command::Replay => answer_to(alloc, bytes),
+        Command::Check => check_answer(alloc, bytes),
+    }
+}
+
 /// Reads a document and answers it.
 ///
 /// # Errors
 ///
 /// `SourceFailed` only where the source's count of faults rose, and `NoMemory`.
-pub fn answer_from<S: Source>(alloc: Global, input: &mut S) -> Result<Answer, Halt>
-    ensures answer { IfOk result (λ answer. IfSome (S.left input.old) (λ bytes. said_by answer ≡ answer_to bytes)) }
+#[tactic(auto, using(crate::proofs::CheckLaws::long_answers))]
+pub fn answer_from<S: Source>(
+    alloc: Global,
+    command: Command,
+    input: &mut S,
+) -> Result<Answer, Halt>
+    ensures answer { IfOk result (λ answer. IfSome (S.left input.old) (λ bytes. IsAnswerOf command bytes (said_by answer))) }
+    ensures accepted { IfOk result (λ answer. IfSome (S.left input.old) (λ bytes. (schema : List Declaration) → command ≡ Check → IsDocument bytes schema
+        → said_by answer ≡ accepted_with (length schema))) }
     ensures status { IfOk result (λ answer. (answer.status ≡ Done) ⊎ (answer.status ≡ Refused)) }
     ensures end { IfOk result (λ answer. answer.status ≡ Done → IsAtEnd (S.left input.new)) }
     ensures failed { IsErrOf result Halt.SourceFailed → Rose (S.faults input.old) (S.faults input.new) }
 {
     match read_all(alloc, input) {
-        Ok(bytes) => Ok(answer_to(alloc, &bytes)?),
+        Ok(bytes) => Ok(answer_of(alloc, command, &bytes)?),
         Err(ReadError::TooLong) => Ok(refusal_answer(alloc, &at_the_front(Code::TooLong))?),
         Err(ReadError::Failed) => Err(Halt::SourceFailed),
         Err(ReadError::NoMemory) => Err(Halt::NoMemory),

@@ -2,6 +2,7 @@
 #![tactic(auto)]
 
 mod answers;
+mod checks;
 mod laws;
 mod reader_checks;
 mod reader_laws;

@@ -112,7 +112,13 @@ fn other_words_are_usage(rt: HostRuntime) -> Result<(), Fail> {
     let alloc = rt.alloc();
     let document = joined(alloc, &[TABLE, COUNTER])?;
     let none: [&str; 0] = [];
-    let others: [&[&str]; 5] = [&none, &["check"], &["replay", "replay"], &["Replay"], &[""]];
+    let others: [&[&str]; 5] = [
+        &none,
+        &["compile"],
+        &["replay", "replay"],
+        &["Replay"],
+        &[""],
+    ];
     for words in others {
         let (status, written) = run(alloc, words, &document, sound(64))?;
         assert_eq!(rt; status, 2);
@@ -136,6 +142,101 @@ fn other_documents_are_refused(rt: HostRuntime) -> Result<(), Fail> {
     let (status, written) = run(alloc, &["replay"], &long, sound(4_096))?;
     assert_eq!(rt; status, 1);
     assert_eq!(rt; written.as_slice(), b"refused 1:1 10\n".as_slice());
+    Ok(())
+}
+
+/// Documents of tables, and what `check` writes of each.
+const CHECKED: [(&str, &str); 22] = [
+    ("", "refused 1:1 1\n"),
+    (
+        "@UOSET create table t (id int, n int @NUMDELTA, primary key (id));",
+        "ok 1 0 0\n",
+    ),
+    (
+        "create table t (a int, b text, primary key (a, b));\ncreate table u (id int, primary key (id));",
+        "ok 2 0 0\n",
+    ),
+    ("@UOSET create table t ?", "refused 1:23 1\n"),
+    (
+        "@UOSET create table t (id int, id int, primary key (id));",
+        "refused 1:32 3\n",
+    ),
+    (
+        "create table t (id int, primary key (id)); txn",
+        "refused 1:44 1\n",
+    ),
+    (
+        "create table t (id int, primary key (id), unique (id));",
+        "refused 1:14 1\n",
+    ),
+    ("create table t (id int);", "refused 1:14 5\n"),
+    (
+        "create table t (id int, primary key (no));",
+        "refused 1:38 2\n",
+    ),
+    (
+        "create table t (id int, primary key (id, id));",
+        "refused 1:42 3\n",
+    ),
+    (
+        "create table t (id int @LWW, primary key (id));",
+        "refused 1:17 5\n",
+    ),
+    (
+        "create table t (id int, s text @NUMDELTA, primary key (id));",
+        "refused 1:25 5\n",
+    ),
+    (
+        "create table t (id int, primary key (id), primary key (id));",
+        "refused 1:56 3\n",
+    ),
+    (
+        "create table t (id int, primary key (id));\ncreate table t (id int, primary key (id));",
+        "refused 2:14 3\n",
+    ),
+    (
+        "create table t (table int, primary key (table));",
+        "refused 1:17 1\n",
+    ),
+    (
+        "create table t (id int, primary key (id))",
+        "refused 1:42 1\n",
+    ),
+    (
+        "@ROSET create table t (id int, primary key (id));",
+        "refused 1:2 1\n",
+    ),
+    (
+        "create table t (id ints, primary key (id));",
+        "refused 1:20 1\n",
+    ),
+    (
+        "create table t (id int @NUM, primary key (id));",
+        "refused 1:25 1\n",
+    ),
+    (
+        "create table abcdefghijklmnopqrstuvwxyz0123456 (id int);",
+        "refused 1:14 6\n",
+    ),
+    (
+        "create table t (id int, primary key (9223372036854775808));",
+        "refused 1:38 6\n",
+    ),
+    ("# no table\n", "refused 2:1 1\n"),
+];
+
+#[test]
+fn documents_of_tables_are_checked(rt: HostRuntime) -> Result<(), Fail> {
+    let alloc = rt.alloc();
+    for (document, text) in CHECKED {
+        let (status, written) = run(alloc, &["check"], document.as_bytes(), sound(64))?;
+        assert_eq!(rt;
+            status,
+            if text.starts_with("ok") { 0 } else { 1 },
+            "{document}"
+        );
+        assert_eq!(rt; written.as_slice(), text.as_bytes(), "{document}");
+    }
     Ok(())
 }
 

@@ -1,6 +1,7 @@
 ghost use Rattle.std.specs.Prelude.{◌≡◌, ◌++◌, OnOk, length, filter, ◌==◌, pos};
 ghost use Rattle.std.specs.Fmt.{decimal, signed_decimal};
 ghost use Rattle.sv_core.specs.Rows.{entry_of};
+ghost use Rattle.sv_tool.specs.CheckText.{ok_line};
 ghost use Rattle.sv_tool.specs.Lines.{packet_text, label_text, reply_text, answer_line, delivered_line, value_text, second_text, key_text, row_line, refusal_line};
 
 use itoa::Buffer;
@@ -22,6 +23,16 @@ pub fn put_count(out: &mut Vec<u8>, n: u64) -> Result<(), NoMemory>
 {
     let mut buffer = Buffer::new();
     put_bytes(out, buffer.format(n).as_bytes())
+}
+
+/// Appends the line of so many accepted tables, without transactions and invariants.
+#[tactic(auto, using(crate::proofs::AppendLaws::appends))]
+pub fn put_accepted(out: &mut Vec<u8>, tables: u64) -> Result<(), NoMemory>
+    ensures { OnOk result (out.new.items ≡ out.old.items ++ ok_line tables) }
+{
+    put_bytes(out, b"ok ")?;
+    put_count(out, tables)?;
+    put_bytes(out, b" 0 0\n")
 }
 
 /// Appends the name of a packet.

@@ -1,8 +1,18 @@
-ghost use Rattle.std.specs.Prelude.{◌≡◌, ◌↔◌, [], ◌∷◌, ◌++◌, IsTrue, OnOk, OnErr};
+ghost use Rattle.std.specs.Prelude.{◌≡◌, ◌↔◌, [], ◌∷◌, ◌++◌, IsTrue, MatchOption, OnOk, OnErr};
+ghost use Rattle.sv_tool.specs.Commands.{IsCommand, IsWordOf};
 
 use std::alloc::Global;
 use std::marker::Model;
 use sv_value::NoMemory;
+
+/// What a command line may ask for.
+#[derive(Clone, Copy, Debug, PartialEq, Eq)]
+pub enum Command {
+    /// To make the steps of a document.
+    Replay,
+    /// To read a document, and say what it has or why it is refused.
+    Check,
+}
 
 /// The words of a command line. Contracts see them as a list, each as its bytes.
 #[derive(Debug, Drop)]
@@ -48,8 +58,21 @@ impl Words {
         Ok(())
     }
 
+    /// The command that the words are, if they are one.
+    pub fn command(&self) -> Option<Command>
+        ensures { MatchOption result (¬ IsCommand self.now) (λ command. IsWordOf command self.now) }
+    {
+        if self.is_only("replay") {
+            return Some(Command::Replay);
+        }
+        if self.is_only("check") {
+            return Some(Command::Check);
+        }
+        None
+    }
+
     /// Whether this is the only word.
-    pub fn is_only(&self, word: &str) -> bool
+    fn is_only(&self, word: &str) -> bool
         ensures { IsTrue result ↔ (self.now ≡ word.now ∷ []) }
     {
         match self.words.as_slice() {

@@ -1,0 +1,93 @@
+-- What `check` answers to the bytes of a document of tables: `ok` with the numbers of its tables, transactions and invariants, or its refusal. Refusals
+-- come in this order: too many bytes, tokens, tables, a token behind them, a table with an invariant, names and types, cycles.
+use Rattle.std.specs.Prelude.{◌≡◌, ℕ, ◌<◌, ◌≤◌, Bool, true, false, not, List, [], ◌∷◌, ◌++◌, length, Option, Some, None, Result, Ok, Err, codes}
+use Rattle.std.specs.Option.{option_map}
+use Rattle.std.specs.List.{find}
+use Rattle.std.specs.Fmt.{decimal}
+use Rattle.sv_io.specs.Flows.{most_bytes}
+use Rattle.sv_value.specs.declared.spots.Spot.{Spot}
+use Rattle.sv_lex.specs.declared.tokens.Token.{Token}
+use Rattle.sv_lex.specs.Spots.{spot_at}
+use Rattle.sv_lex.specs.Standing.{place_of}
+use Rattle.sv_lex.specs.Tokens.{Fault, BadByte, LongNumber, LongText, LongName, lexed}
+use Rattle.sv_app.specs.declared.refusals.Code.{Code}
+use Rattle.sv_app.specs.declared.refusals.Code.TheVariants.{Syntax, Many, TooLong}
+use Rattle.sv_app.specs.declared.apps.App.{App}
+use Rattle.sv_app.specs.declared.refusals.Refusal.{Refusal}
+use Rattle.sv_app.specs.declared.refusals.Stop.{Stop}
+use Rattle.sv_app.specs.declared.refusals.Stop.TheVariants.{Refused as Refuse, NoMemory}
+use Rattle.sv_app.specs.Acceptance.{IsAccepted, IsRefused as IsUnaccepted}
+use Rattle.sv_app.specs.Schema.{Declaration}
+use Rattle.sv_schema_reader.specs.Refused.{IsRefused, IsRead}
+use Rattle.sv_tool.specs.declared.statuses.Status.TheVariants.{Done, Refused}
+use Rattle.sv_tool.specs.Answer.{Answer, at_the_front}
+use Rattle.sv_tool.specs.Lines.{refusal_line}
+
+abbrev pub IsCheck : List (List ℕ) → Type 0
+IsCheck words = words ≡ codes "check" ∷ []
+
+-- a byte that can't stand there is written wrong, and the other faults of tokens are limits
+abbrev pub code_of : Fault → Code
+code_of (BadByte at) = Syntax
+code_of (LongNumber at) = Many
+code_of (LongText at) = Many
+code_of (LongName at) = Many
+
+abbrev pub has_none : {A : Type 0} → List A → Bool
+has_none [] = true
+has_none (a ∷ rest) = false
+
+abbrev pub has_invariant : Declaration → Bool
+has_invariant table = not (has_none table.invs)
+
+-- what refuses tables before their names and types are looked at: a token behind them, else an invariant, at the name of its table
+abbrev pub early_refusal : List Declaration → List Token → Option Refusal
+early_refusal schema (token ∷ rest) = Some (record { spot = token.spot; code = Syntax })
+early_refusal schema [] = option_map (λ table. record { spot = table.name.spot; code = Syntax }) (find has_invariant schema)
+
+-- tokens of tables that are accepted
+pub record AreAccepted (tokens : List Token) (schema : List Declaration) : Type 0 where
+  pub read : IsRead tokens [] schema
+  pub plain : early_refusal schema [] ≡ None
+  pub accepted : IsAccepted schema
+
+-- why tables are refused that were read, with these tokens behind them
+pub data IsLater (schema : List Declaration) (rest : List Token) (refusal : Refusal) : Type 0 where
+  Early : early_refusal schema rest ≡ Some refusal → IsLater schema rest refusal
+  Unaccepted : early_refusal schema rest ≡ None → IsUnaccepted schema refusal → IsLater schema rest refusal
+
+-- why tokens are refused, where the document ends there
+pub data IsRefusal (tokens : List Token) (end : Spot) (refusal : Refusal) : Type 0 where
+  Unread : IsRefused tokens end refusal → IsRefusal tokens end refusal
+  Later : (front rest : List Token) (schema : List Declaration) → tokens ≡ front ++ rest → IsRead front rest schema → IsLater schema rest refusal → IsRefusal tokens end refusal
+
+-- so many tables are accepted, unless there was no memory
+abbrev pub IsAcceptedAs : Result App Stop → ℕ → Type 0
+IsAcceptedAs (Ok app) n = length app.tables.items ≡ n
+IsAcceptedAs (Err (Refuse refusal)) n = ⊥
+IsAcceptedAs (Err NoMemory) n = Unit {0}
+
+-- `ok TABLES TXNS INVARIANTS`
+abbrev pub ok_line : ℕ → List ℕ
+ok_line tables = codes "ok " ++ decimal tables ++ codes " 0 0\n"
+
+-- the bytes are a document of accepted tables
+pub record IsDocument (bytes : List ℕ) (schema : List Declaration) : Type 0 where
+  pub short : length bytes ≤ most_bytes
+  pub tokens : List Token
+  pub are : lexed bytes ≡ Ok tokens
+  pub accepted : AreAccepted tokens schema
+
+abbrev pub accepted_with : ℕ → Answer
+accepted_with tables = record { status = Done; text = ok_line tables }
+
+abbrev pub refused_with : Refusal → Answer
+refused_with refusal = record { status = Refused; text = refusal_line refusal }
+
+-- the answer to the bytes
+pub data IsCheckAnswer (bytes : List ℕ) : Answer → Type 0 where
+  Accepts : (schema : List Declaration) → IsDocument bytes schema → IsCheckAnswer bytes (accepted_with (length schema))
+  Long : most_bytes < length bytes → IsCheckAnswer bytes (refused_with (at_the_front TooLong))
+  Faulty : (fault : Fault) → length bytes ≤ most_bytes → lexed bytes ≡ Err fault → IsCheckAnswer bytes (refused_with (record { spot = spot_at bytes (place_of fault); code = code_of fault }))
+  Refuses : (tokens : List Token) (refusal : Refusal) → length bytes ≤ most_bytes → lexed bytes ≡ Ok tokens → IsRefusal tokens (spot_at bytes (length bytes)) refusal
+      → IsCheckAnswer bytes (refused_with refusal)
