@@ -1,13 +1,11 @@
--- Codes of places and tables, so that a type may have tables as what contracts see.
+-- Codes of values, keys and places, so that a type may have tables as what contracts see.
 use Rattle.std.specs.Prelude.{◌≡◌, ℕ, ℤ, List, Option, ◌⊎◌, refl}
 use Rattle.std.proofs.Common.{inl, inr}
 use Rattle.std.specs.Coded.{Coded, code_by, coded×, coded⊎, coded_ℕ, coded_ℤ, coded_list, coded_option}
-use Rattle.std.specs.FinMap.{code}
 use Rattle.sv_value.specs.declared.values.Val.{Val}
 use Rattle.sv_value.specs.declared.values.Val.TheVariants.{Int, Text as IsText}
 use Rattle.sv_value.specs.declared.values.Key.{Key}
 use Rattle.sv_app.specs.declared.places.Place.{Place}
-use Rattle.sv_app.specs.Tables.{Row, Tables}
 
 abbrev pub to_sum : Val → ℤ ⊎ List ℕ
 to_sum (Int n) = inl n
@@ -29,9 +27,3 @@ coded_key = code_by (Val × Option Val) (coded× coded_val (coded_option coded_v
 
 abbrev pub coded_place : Coded Place
 coded_place = code_by (ℕ × Key) (coded× coded_ℕ coded_key) (λ p. (p.table, p.key)) (λ p. record { table = p.0; key = p.1 }) (λ _. refl)
-
-abbrev pub coded_row : Coded Row
-coded_row = code_by ℤ coded_ℤ (λ row. row.count) (λ n. record { count = n }) (λ _. refl)
-
-abbrev pub coded_tables : Coded Tables
-coded_tables = code coded_place coded_row

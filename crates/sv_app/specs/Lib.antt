@@ -5,8 +5,11 @@ pub mod Conditions
 pub mod Firsts
 pub mod Lookups
 pub mod Numbers
+pub mod Parts
 pub mod References
 pub mod Schema
 pub mod Tables
+pub mod Trees
 pub mod Typing
+pub mod Weights
 pub mod Words

@@ -1,4 +1,5 @@
 use crate::schemas::Table;
+use crate::txns::Txn;
 use sv_value::{Name, Spot};
 
 /// A name where it stands in the document. `num` is the number of what it names.
@@ -7,12 +8,6 @@ pub struct Ident {
     pub name: Name,
     pub spot: Spot,
     pub num: u16,
-}
-
-/// A transaction that adds its second argument to the counter of the row that its first one names.
-#[derive(Debug, Drop)]
-pub struct Txn {
-    pub name: Ident,
 }
 
 /// The tables and transactions of a document.

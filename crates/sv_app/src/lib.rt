@@ -3,16 +3,22 @@
 
 mod acts;
 mod apps;
+mod gots;
+mod parts;
 mod places;
 mod refusals;
 mod requests;
 mod schemas;
+mod txns;
 mod words;
 
 pub use acts::Act;
-pub use apps::{App, Ident, Txn};
+pub use apps::{App, Ident};
+pub use gots::Got;
+pub use parts::{Parts, each, if_else, parts_of, rows};
 pub use places::Place;
 pub use refusals::{Code, Refusal, Stop};
 pub use requests::{Arg, InitRow, Request};
 pub use schemas::{Check, Column, Inv, InvBody, Kind, Merge, Table, Ty};
+pub use txns::{Cond, Expr, Rel, Stmt, Txn};
 pub use words::is_reserved;

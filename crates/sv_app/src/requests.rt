@@ -1,9 +1,11 @@
-use sv_value::{Key, List, Spot, Val};
+use sv_value::{Key, List, Spot, Text, Val};
 
 /// An argument of a call.
 #[derive(Debug, Drop)]
 pub enum Arg {
     Int(i64),
+    Text(Text),
+    Ints(List<i64>),
 }
 
 /// A call of a transaction, by its number, with its arguments.

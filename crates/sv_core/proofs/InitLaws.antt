@@ -7,7 +7,8 @@ use Rattle.std.proofs.lemmas.Map.Views.{tells_apart}
 use Rattle.std.specs.FinMap.{get, insert, get-insert, get-empty, same_map, empty as empty_tables}
 use Rattle.sv_app.specs.declared.places.Place.{Place}
 use Rattle.sv_app.specs.declared.requests.InitRow.{InitRow}
-use Rattle.sv_app.specs.Tables.{place_cmp, Row}
+use Rattle.sv_app.specs.Tables.{place_cmp}
+use Rattle.sv_core.specs.Counters.{Row}
 use Rattle.sv_app.proofs.PlaceLaws.{place_total, exact_places}
 use Rattle.sv_core.specs.Cut.{empty}
 use Rattle.sv_core.specs.TablesOfCut.{is_place, init_place, init_count, initial, sum_to, gained_in, named_to, tables_held}

@@ -17,7 +17,8 @@ use Rattle.sv_core.proofs.CutLaws.{order}
 use Rattle.std.proofs.lemmas.List.Sorted.{IsNonDecreasingBy-from_default}
 use Rattle.sv_value.specs.declared.values.Val.TheVariants.{Int}
 use Rattle.sv_app.specs.declared.places.Place.{Place}
-use Rattle.sv_app.specs.Tables.{place_cmp, Row, Tables}
+use Rattle.sv_app.specs.Tables.{place_cmp}
+use Rattle.sv_core.specs.Counters.{Row, Tables}
 use Rattle.sv_app.proofs.PlaceLaws.{place_total, exact_places}
 use Rattle.sv_core.specs.declared.rows.KeptRow.{KeptRow}
 use Rattle.sv_core.specs.TablesOfCut.{is_place}

@@ -2,7 +2,7 @@
 use Rattle.std.specs.Prelude.{pos, ◌+ℤ◌, List, [], ◌∷◌, unwrap_or}
 use Rattle.std.specs.FinMap.{get, insert}
 use Rattle.sv_app.specs.declared.places.Place.{Place}
-use Rattle.sv_app.specs.Tables.{Row, Tables}
+use Rattle.sv_core.specs.Counters.{Row, Tables}
 use Rattle.sv_core.specs.declared.ops.RowEffect.{RowEffect}
 use Rattle.sv_core.specs.declared.ops.Op.{Op}
 

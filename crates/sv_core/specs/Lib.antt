@@ -1,4 +1,5 @@
 pub mod Applied
+pub mod Counters
 pub mod Cut
 pub mod Document
 pub mod History

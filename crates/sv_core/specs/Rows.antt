@@ -3,7 +3,8 @@ use Rattle.std.specs.Prelude.{◌≡◌, ℕ, ◌<◌, ◌≤◌, ◌^◌, List,
 use Rattle.std.specs.declared.cmp.Ordering.TheVariants.{Less, Greater}
 use Rattle.std.specs.FinMap.{get, from_entries}
 use Rattle.sv_app.specs.declared.places.Place.{Place}
-use Rattle.sv_app.specs.Tables.{place_cmp, Row, Tables}
+use Rattle.sv_app.specs.Tables.{place_cmp}
+use Rattle.sv_core.specs.Counters.{Row, Tables}
 use Rattle.sv_core.specs.declared.ops.RowEffect.{RowEffect}
 use Rattle.sv_core.specs.declared.rows.KeptRow.{KeptRow}
 use Rattle.sv_core.specs.Applied.{place_of, with_change}

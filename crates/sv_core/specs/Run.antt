@@ -8,7 +8,7 @@ use Rattle.sv_app.specs.declared.places.Place.{Place}
 use Rattle.sv_app.specs.declared.requests.Arg.{Arg}
 use Rattle.sv_app.specs.declared.requests.Arg.TheVariants.{Int as IntArg}
 use Rattle.sv_app.specs.declared.requests.Request.{Request}
-use Rattle.sv_app.specs.Tables.{Row, Tables}
+use Rattle.sv_core.specs.Counters.{Row, Tables}
 use Rattle.sv_core.specs.declared.ops.RowEffect.{RowEffect}
 use Rattle.sv_core.specs.declared.runs.Ran.{Ran}
 use Rattle.sv_core.specs.declared.entries.Outcome.{Outcome}
@@ -17,10 +17,10 @@ use Rattle.sv_core.specs.declared.entries.Outcome.TheVariants.{Done, NoRow, Rang
 abbrev pub ends : Outcome → Ran
 ends outcome = record { outcome = outcome; effects = [] }
 
--- the first and the second argument
+-- the first and the second argument, which are numbers
 abbrev pub first_arg : List Arg → ℤ
-first_arg [] = pos 0
 first_arg (IntArg n ∷ rest) = n
+first_arg _ = pos 0
 
 abbrev pub second_arg : List Arg → ℤ
 second_arg [] = pos 0

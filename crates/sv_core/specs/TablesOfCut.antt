@@ -9,7 +9,8 @@ use Rattle.sv_value.specs.declared.values.Val.{Val}
 use Rattle.sv_value.specs.declared.values.Val.TheVariants.{Int}
 use Rattle.sv_app.specs.declared.places.Place.{Place}
 use Rattle.sv_app.specs.declared.requests.InitRow.{InitRow}
-use Rattle.sv_app.specs.Tables.{place_cmp, Row, Tables}
+use Rattle.sv_app.specs.Tables.{place_cmp}
+use Rattle.sv_core.specs.Counters.{Row, Tables}
 use Rattle.sv_core.specs.declared.ops.RowEffect.{RowEffect}
 use Rattle.sv_core.specs.declared.ops.Op.{Op}
 use Rattle.sv_core.specs.Cut.{Cut, Medium, held}

@@ -77,6 +77,8 @@ fn app(alloc: Global) -> Result<App, Fail> {
     let mut txns = Vec::new(alloc);
     txns.push(Txn {
         name: ident(b"add")?,
+        params: Vec::new(alloc),
+        body: Vec::new(alloc),
     })?;
     Ok(App { tables, txns })
 }
@@ -386,8 +388,10 @@ enum Damage {
 fn copied_request(alloc: Global, request: &Request) -> Result<Request, Fail> {
     let mut args = List::new(alloc);
     for arg in request.args.items() {
-        let Arg::Int(number) = arg;
-        args.push(Arg::Int(*number))?;
+        match arg {
+            Arg::Int(number) => args.push(Arg::Int(*number))?,
+            Arg::Text(_) | Arg::Ints(_) => return Err("no number".into()),
+        }
     }
     Ok(Request {
         txn: request.txn,

@@ -29,8 +29,8 @@ pub struct Rows {
 }
 
 impl Model for Rows {
-    ghost use Rattle.sv_app.specs.Tables.{Tables};
-    ghost use Rattle.sv_app.specs.CodedTables.{coded_tables};
+    ghost use Rattle.sv_core.specs.Counters.{Tables};
+    ghost use Rattle.sv_core.specs.Counters.{coded_tables};
 
     ghost Value = { Tables };
 
@@ -88,7 +88,7 @@ fn grown(row: &KeptRow, effect: &RowEffect) -> KeptRow
 }
 
 impl Rows {
-    ghost use Rattle.sv_app.specs.Tables.{Row};
+    ghost use Rattle.sv_core.specs.Counters.{Row};
 
     pub fn new(alloc: Global) -> Rows
         ensures { result ≡ map_of.empty }

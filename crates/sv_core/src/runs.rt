@@ -21,7 +21,7 @@ pub(crate) fn first_arg(args: &[Arg]) -> i64
 {
     match args {
         [Arg::Int(first), ..] => *first,
-        [] => 0,
+        _ => 0,
     }
 }
 
