@@ -11,5 +11,6 @@ pub mod Schema
 pub mod Tables
 pub mod Trees
 pub mod Typing
+pub mod Valid
 pub mod Weights
 pub mod Words
