@@ -1,6 +1,7 @@
 pub mod CellLaws
 pub mod CommuteLaws
 pub mod FitLaws
+pub mod FollowLaws
 pub mod GreatestLaws
 pub mod KeptLaws
 pub mod MediumLaws

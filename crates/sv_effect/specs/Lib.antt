@@ -1,11 +1,17 @@
+pub mod Agrees
 pub mod Applied
+pub mod BareTables
 pub mod Commutes
 pub mod Cut
 pub mod Fits
+pub mod Follows
 pub mod Laws
+pub mod Reads
 pub mod RowChange
+pub mod RowsFit
 pub mod Sequences
 pub mod StampedTables
 pub mod Suits
 pub mod TablesOfCut
+pub mod Takes
 pub mod Threatened
