@@ -11,6 +11,7 @@ pub mod PlaceListLaws
 pub mod Promises
 pub mod RowLaws
 pub mod SequenceLaws
+pub mod SourceLaws
 pub mod SumLaws
 pub mod TableLaws
 pub mod TestLaws

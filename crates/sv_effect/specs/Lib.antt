@@ -15,3 +15,4 @@ pub mod Suits
 pub mod TablesOfCut
 pub mod Takes
 pub mod Threatened
+pub mod Words

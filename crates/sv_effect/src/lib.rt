@@ -9,6 +9,7 @@ mod noted;
 mod ops;
 mod reads;
 mod rows;
+mod seen;
 
 pub use asks::{ask_next, ask_row};
 pub use cells::{Cell, Row};
