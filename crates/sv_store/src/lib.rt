@@ -3,8 +3,6 @@
 
 mod rows;
 mod stores;
-#[cfg(test)]
-mod tests;
 
 pub use rows::KeptRow;
 pub use stores::ListStore;

@@ -1,18 +1,20 @@
 ghost use Rattle.std.specs.Prelude.{◌≡◌, ◌≤◌, ◌<◌, ◌+◌, ◌^◌, length, map, All, IfOk, IfErr, IfSome};
 ghost use Rattle.std.specs.Option.{option_map};
 ghost use Rattle.std.specs.FinMap as map_of;
+ghost use Rattle.sv_app.specs.Accepted.{AcceptedSchema};
 ghost use Rattle.sv_app.specs.Schema.{declaration_of, schema_of};
 ghost use Rattle.sv_effect.specs.StampedTables.{row_of};
 ghost use Rattle.sv_effect.specs.RowChange.{changed, is_annotated, zero_row};
 ghost use Rattle.sv_effect.specs.Applied.{place_of, changes_of, applied};
 ghost use Rattle.sv_effect.specs.Fits.{CellsFit, ChangeFits, CountsFit, OpFits};
-ghost use Rattle.sv_effect.specs.Commutes.{TablesFit};
-ghost use Rattle.sv_effect.specs.Laws.{HasNoLists};
+ghost use Rattle.sv_effect.specs.BareTables.{how_many};
+ghost use Rattle.sv_effect.specs.RowsFit.{TablesAreOf};
+ghost use Rattle.sv_effect.specs.Takes.{KeepsBounds, FindsRows, inserts};
 ghost use Rattle.sv_effect.specs.Cut.{empty};
 ghost use Rattle.sv_effect.specs.TablesOfCut.{tables_held};
 ghost use Rattle.sv_store.specs.Initial.{InitFits, AreDistinct};
-ghost use Rattle.sv_store.specs.Stored.{entry_of, AreRising, IsAt, IsGapFor, HasRoom, with_row, how_many};
-ghost use Rattle.sv_store.specs.Takes.{standing, left_by, IsNarrowSchema, KeepsBounds, FindsRows, inserts};
+ghost use Rattle.sv_store.specs.Stored.{entry_of, AreRising, IsAt, IsGapFor, HasRoom, with_row};
+ghost use Rattle.sv_store.specs.Standing.{standing, left_by};
 
 use crate::rows::{KeptRow, init_row, zero_row};
 use std::alloc::Global;
@@ -66,21 +68,21 @@ fn new_row(table: &Table, effect: &RowEffect, stamp: Stamp) -> Row
 }
 
 impl ListStore {
-    /// A store of the initial rows, with space for so many further ones. The initial rows fit the application's tables,
-    /// and no two stand at one place.
+    /// A store of the initial rows, with space for so many further ones. The application is accepted, the initial rows
+    /// fit its tables, and no two stand at one place.
     pub fn start(
         alloc: Global,
         app: &App,
         init: &[InitRow],
         room: u32,
     ) -> Result<ListStore, NoMemory>
-        requires narrow { IsNarrowSchema (schema_of app.now.tables.items) }
+        requires accepted { AcceptedSchema (schema_of app.now.tables.items) }
         requires fits { All (InitFits (schema_of app.now.tables.items)) init.now }
         requires distinct { AreDistinct init.now }
         requires few { length init.now + room < 2 ^ 32 }
         ensures tables { IfOk result (λ store. store.tables ≡ tables_held (schema_of app.now.tables.items) init.now empty) }
         ensures room { IfOk result (λ store. store.room ≡ room) }
-        ensures kept { IfOk result (λ store. TablesFit (schema_of app.now.tables.items) store.tables) }
+        ensures of_app { IfOk result (λ store. TablesAreOf (schema_of app.now.tables.items) store.tables) }
     {
         let mut store = ListStore {
             kept: Vec::with_capacity(alloc, init.len() + room as usize)?,
@@ -161,16 +163,15 @@ impl ListStore {
     /// each count that a change leaves lies between -2^100 and 2^100, and there is room for the inserts.
     /// The room falls by the number of rows that came to be kept, and the rows are still of the application.
     pub fn apply(&mut self, app: &App, op: &Op)
-        requires narrow { IsNarrowSchema (schema_of app.now.tables.items) }
-        requires lists { HasNoLists (schema_of app.now.tables.items) }
-        requires rows { TablesFit (schema_of app.now.tables.items) self.old.tables }
+        requires rows { TablesAreOf (schema_of app.now.tables.items) self.old.tables }
         requires fits { OpFits (schema_of app.now.tables.items) op.now }
         requires found { FindsRows (schema_of app.now.tables.items) (changes_of op.now) self.old.tables }
         requires counts { KeepsBounds (schema_of app.now.tables.items) (changes_of op.now) self.old.tables }
         requires room { inserts op.now.effects ≤ self.old.room }
         ensures tables { self.new.tables ≡ applied (schema_of app.now.tables.items) op.now self.old.tables }
         ensures room { self.new.room + how_many self.new.tables ≡ self.old.room + how_many self.old.tables }
-        ensures kept { TablesFit (schema_of app.now.tables.items) self.new.tables }
+        ensures spent { self.old.room ≤ self.new.room + inserts op.now.effects }
+        ensures of_app { TablesAreOf (schema_of app.now.tables.items) self.new.tables }
     {
         for (place, effect) in op.effects.items().iter().enumerate() {
             let stamp = Stamp {
