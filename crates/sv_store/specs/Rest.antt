@@ -1,5 +1,5 @@
 -- The rows of a table behind a key, or all of them, and where among rows in order of their places they begin.
-use Rattle.std.specs.Prelude.{◌≡◌, ℕ, ◌<◌, ◌≤◌, ◌==◌, ◌&&◌, ◌||◌, nat_lt, Bool, true, false, List, length, filter, Option, Some, slice_get}
+use Rattle.std.specs.Prelude.{◌≡◌, ℕ, ◌<◌, ◌≤◌, ◌==◌, ◌&&◌, ◌||◌, nat_lt, if◌then◌else◌, Bool, true, false, List, [], ◌∷◌, length, filter, Option, Some, None, slice_get}
 use Rattle.std.specs.FinMap.{entries}
 use Rattle.sv_value.specs.declared.values.Key.{Key}
 use Rattle.sv_app.specs.declared.places.Place.{Place}
@@ -23,3 +23,8 @@ pub record IsStart (rows : List KeptRow) (table : ℕ) (after : Option Key) (at 
   pub within : at ≤ length rows
   pub before : (i : ℕ) (row : KeptRow) → i < at → slice_get rows i ≡ Some row → is_behind table after row.place ≡ false
   pub behind : (i : ℕ) (row : KeptRow) → at ≤ i → slice_get rows i ≡ Some row → is_behind table after row.place ≡ true
+
+-- the key of the first row of the table that is present, before any of another table
+abbrev pub first_present : ℕ → List KeptRow → Option Key
+first_present table [] = None
+first_present table (kept ∷ rows) = if kept.place.table == table then if kept.row.mark then Some kept.place.key else first_present table rows else None

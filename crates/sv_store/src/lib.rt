@@ -2,6 +2,7 @@
 #![tactic(auto)]
 
 mod rows;
+mod sources;
 mod stores;
 
 pub use rows::KeptRow;
