@@ -6,10 +6,15 @@ pub mod Firsts
 pub mod Lookups
 pub mod Numbers
 pub mod Parts
+pub mod Paths
 pub mod References
 pub mod Schema
+pub mod Shaped
+pub mod Slots
+pub mod Symbols
 pub mod Tables
 pub mod Trees
 pub mod Typing
+pub mod Units
 pub mod Weights
 pub mod Words

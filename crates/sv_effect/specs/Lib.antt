@@ -3,7 +3,11 @@ pub mod Commutes
 pub mod Cut
 pub mod Fits
 pub mod Laws
+pub mod Needs
 pub mod RowChange
+pub mod Run
+pub mod RunChanges
+pub mod RunValues
 pub mod Sequences
 pub mod StampedTables
 pub mod Suits

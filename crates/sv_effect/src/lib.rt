@@ -5,8 +5,10 @@ mod cells;
 mod changes;
 mod laws;
 mod ops;
+mod outcomes;
 
 pub use cells::{Cell, Row};
 pub use changes::apply_row;
 pub use laws::{any_sequence, fitting_kept, greatest_is, one_more, unthreatened_commute};
 pub use ops::{Need, Op, RowEffect, Write};
+pub use outcomes::{Outcome, Ran};
