@@ -1,12 +1,13 @@
 -- The numbers of refusals.
 use Rattle.std.specs.Prelude.{ℕ}
 use Rattle.sv_app.specs.declared.refusals.Code.{Code}
-use Rattle.sv_app.specs.declared.refusals.Code.TheVariants.{Syntax, Unknown, Twice, Typing, Many, Cyclic, TooLong}
+use Rattle.sv_app.specs.declared.refusals.Code.TheVariants.{Syntax, Unknown, Twice, Kind, Typing, Many, Cyclic, TooLong}
 
 abbrev pub number_of : Code → ℕ
 number_of Syntax = 1
 number_of Unknown = 2
 number_of Twice = 3
+number_of Kind = 4
 number_of Typing = 5
 number_of Many = 6
 number_of Cyclic = 7

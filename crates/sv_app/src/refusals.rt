@@ -13,6 +13,8 @@ pub enum Code {
     Unknown,
     /// A name or a key that stands before.
     Twice,
+    /// A change that the kind of its table doesn't allow.
+    Kind,
     /// A type that isn't allowed at its place.
     Typing,
     /// One more than a limit allows.
@@ -32,6 +34,7 @@ impl Code {
             Code::Syntax => 1,
             Code::Unknown => 2,
             Code::Twice => 3,
+            Code::Kind => 4,
             Code::Typing => 5,
             Code::Many => 6,
             Code::Cyclic => 7,
