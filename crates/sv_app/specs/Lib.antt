@@ -1,6 +1,5 @@
 pub mod Acceptance
 pub mod Accepted
-pub mod AcceptedApp
 pub mod CodedTables
 pub mod Codes
 pub mod Conditions

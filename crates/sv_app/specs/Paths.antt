@@ -10,9 +10,10 @@ use Rattle.sv_app.specs.declared.schemas.Merge.{Merge}
 use Rattle.sv_app.specs.declared.schemas.Merge.TheVariants as merges
 use Rattle.sv_app.specs.declared.schemas.Ty.{Ty}
 use Rattle.sv_app.specs.declared.schemas.Ty.TheVariants as types
+use Rattle.sv_app.specs.Kinds.{is_grow_only}
 use Rattle.sv_app.specs.Schema.{Declaration}
 use Rattle.sv_app.specs.Slots.{item, with_item}
-use Rattle.sv_app.specs.Symbols.{is_known, is_factor, is_grow_only, is_key_column, block_assigns, known_after}
+use Rattle.sv_app.specs.Symbols.{is_known, is_factor, is_key_column, block_assigns, known_after}
 use Rattle.sv_app.specs.Trees.{Term, Number, Words, Variable, Field, Old, Minus, Sum, Difference, Product, Test, Compare, Negation, Both, Either, Command, Declare, Assign, Fetch, Choose, ForRows, ForEach, Insert, Update, Remove, Abort, Reply, Block, Finish, Then, Transaction}
 
 -- the types of variables, and the tables of row variables, by the numbers of names

@@ -26,12 +26,6 @@ is_factor (Number n s) = true
 is_factor (Minus a s) = is_number a
 is_factor _ = false
 
--- the tables whose rows are never removed
-abbrev pub is_grow_only : Kind → Bool
-is_grow_only kinds.Aoset = true
-is_grow_only kinds.Auset = true
-is_grow_only _ = false
-
 abbrev pub is_key_column : List Ident → ℕ → Bool
 is_key_column key c = list_any (λ name. name.num == c) key
 

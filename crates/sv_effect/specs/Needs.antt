@@ -9,7 +9,7 @@ use Rattle.sv_app.specs.declared.acts.Act.TheVariants.{Insert, Update, Remove}
 use Rattle.sv_app.specs.declared.apps.Ident.{Ident}
 use Rattle.sv_app.specs.declared.places.Place.{Place}
 use Rattle.sv_app.specs.Schema.{Rule, Bound, OneOf, Different, Refers, Invariant, Declaration}
-use Rattle.sv_app.specs.Symbols.{is_grow_only}
+use Rattle.sv_app.specs.Kinds.{is_grow_only}
 use Rattle.sv_app.specs.Tables.{place_cmp}
 use Rattle.sv_effect.specs.declared.ops.Need.{Need}
 use Rattle.sv_effect.specs.declared.ops.Need.TheVariants as needs

@@ -15,7 +15,8 @@ use Rattle.sv_app.specs.declared.schemas.Merge.{Merge}
 use Rattle.sv_app.specs.declared.schemas.Merge.TheVariants as merges
 use Rattle.sv_app.specs.Schema.{Declaration}
 use Rattle.sv_app.specs.Slots.{item, with_item}
-use Rattle.sv_app.specs.Symbols.{is_grow_only, is_key_column}
+use Rattle.sv_app.specs.Kinds.{is_grow_only}
+use Rattle.sv_app.specs.Symbols.{is_key_column}
 use Rattle.sv_app.specs.Tables.{Row}
 use Rattle.sv_app.specs.Trees.{Term}
 use Rattle.sv_effect.specs.declared.ops.Write.{Write}
