@@ -50,7 +50,7 @@ no_lists schema accepted number place table column at at_column =
 -- nothing is wrong with a table
 pub table_right : (schema : List Declaration) → AcceptedSchema schema → (number : ℕ) (table : Declaration) → slice_get schema number ≡ Some table → table_faults schema table ≡ []
 table_right schema accepted number table at =
-    each_none (table_faults schema) schema number table (back_none (repeats (table_names schema)) (flat_map (λ t. table_faults schema t) schema) accepted.accepted.typed) at
+    each_none (table_faults schema) schema number table (back_none (repeats (table_names schema)) (flat_map (λ t. table_faults schema t) schema) accepted.typed) at
 
 pub columns_right : (schema : List Declaration) → AcceptedSchema schema → (number : ℕ) (table : Declaration) → slice_get schema number ≡ Some table → column_faults table ≡ []
 columns_right schema accepted number table at =

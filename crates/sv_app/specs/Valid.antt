@@ -12,8 +12,7 @@ use Rattle.sv_app.specs.declared.gots.Got.{Got}
 use Rattle.sv_app.specs.declared.gots.Got.TheVariants.{Num, Text}
 use Rattle.sv_app.specs.declared.places.Place.{Place}
 use Rattle.sv_app.specs.declared.schemas.Check.{Check}
-use Rattle.sv_app.specs.declared.schemas.Kind.{Kind}
-use Rattle.sv_app.specs.declared.schemas.Kind.TheVariants as kinds
+use Rattle.sv_app.specs.Kinds.{is_grow_only}
 use Rattle.sv_app.specs.Schema.{Rule, Bound, OneOf, Different, Refers, Invariant, Declaration}
 use Rattle.sv_app.specs.Tables.{Row, Tables}
 
@@ -60,14 +59,6 @@ pub record IsPresent (t : Tables) (table : ℕ) (key : Key) : Type 0 where
 -- no other present row has the value
 abbrev pub IsAlone : Tables → ℕ → Ident → Key → Row → Type 0
 IsAlone t table column key row = (other : Key) (with_it : Row) → IsKept t table other with_it → with_it.present ≡ true → value_of with_it column ≡ value_of row column → other ≡ key
-
--- tables whose rows are never removed
-abbrev pub is_grow_only : Kind → Bool
-is_grow_only kinds.Plain = false
-is_grow_only kinds.Aoset = true
-is_grow_only kinds.Uoset = true
-is_grow_only kinds.Auset = true
-is_grow_only kinds.Arset = false
 
 -- a reference to a grow-only table binds each kept row, another one the present rows
 abbrev pub Binds : Option Declaration → Bool → Type 0
