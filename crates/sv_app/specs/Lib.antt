@@ -7,11 +7,16 @@ pub mod Firsts
 pub mod Lookups
 pub mod Numbers
 pub mod Parts
+pub mod Paths
 pub mod References
 pub mod Schema
+pub mod Shaped
+pub mod Slots
+pub mod Symbols
 pub mod Tables
 pub mod Trees
 pub mod Typing
+pub mod Units
 pub mod Valid
 pub mod Weights
 pub mod Words

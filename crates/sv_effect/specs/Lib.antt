@@ -6,9 +6,13 @@ pub mod Cut
 pub mod Fits
 pub mod Follows
 pub mod Laws
+pub mod Needs
 pub mod Reads
 pub mod RowChange
 pub mod RowsFit
+pub mod Run
+pub mod RunChanges
+pub mod RunValues
 pub mod Sequences
 pub mod StampedTables
 pub mod Suits

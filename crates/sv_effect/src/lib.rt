@@ -10,6 +10,7 @@ mod ops;
 mod reads;
 mod rows;
 mod seen;
+mod outcomes;
 
 pub use asks::{ask_next, ask_row};
 pub use cells::{Cell, Row};
@@ -20,3 +21,4 @@ pub use ops::{Need, Op, RowEffect, Write};
 pub use reads::{Ask, Halt, Read, Seen, Told};
 pub use rows::{RowStore, Rows};
 pub use sv_app::Got;
+pub use outcomes::{Outcome, Ran};
