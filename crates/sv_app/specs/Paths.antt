@@ -83,10 +83,10 @@ abbrev pub put : Ty → Way → Way
 put ty w = record w { symbols = w.symbols ++ ty ∷ [] }
 
 abbrev pub brought : Source → Ty → Way → Way
-brought source ty w = if is_known source w.known then w else put ty (record w { known = source ∷ w.known })
+brought source ty w = if is_known source w.known then w else put ty (record w { known = w.known ++ source ∷ [] })
 
 abbrev pub brought_old : ℕ → Ty → Way → Way
-brought_old c ty w = if list_any (λ d. c == d) w.known_old then w else put ty (record w { known_old = c ∷ w.known_old })
+brought_old c ty w = if list_any (λ d. c == d) w.known_old then w else put ty (record w { known_old = w.known_old ++ c ∷ [] })
 
 abbrev pub term_way : List Declaration → Names → ℕ → Term → Way → Way
 term_way schema names table (Number n at) w = w
@@ -164,7 +164,7 @@ on_side (Tells true w) f g = f w
 on_side (Tells false w) f g = g w
 
 abbrev pub formed : ℕ → Way → Way
-formed x w = record w { known = sources.Variable x ∷ w.known }
+formed x w = record w { known = w.known ++ sources.Variable x ∷ [] }
 
 -- a loop only gives the variables that its body assigns new sources
 abbrev pub after_loop : Block → Way → Path

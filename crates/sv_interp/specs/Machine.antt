@@ -1,0 +1,17 @@
+-- What the interpreter holds, as the meaning of a run speaks of it.
+use Rattle.std.specs.Prelude.{Option, Some, None}
+use Rattle.sv_interp.specs.declared.scopes.Progress.{Progress}
+use Rattle.sv_interp.specs.declared.scopes.Scope.{Scope}
+use Rattle.sv_effect.specs.RunValues as run
+use Rattle.sv_effect.specs.RunValues.{Evaluated, Leaves, Gives}
+
+abbrev pub progress_of : Progress → run.Progress
+progress_of p = record { unit = p.unit; number = p.number; choices = p.choices; tape = p.tape; known = p.known; known_old = p.known_old }
+
+abbrev pub scope_of : Scope → run.Scope
+scope_of s = record { values = s.values.items; rows = s.rows.items; old = s.before; progress = progress_of s.progress }
+
+-- a value and the scope after it, or none where an integer left 64 bits
+abbrev pub evaluated : {A : Type 0} → Option A → Scope → Evaluated A
+evaluated None s = Leaves
+evaluated (Some v) s = Gives v (scope_of s)

@@ -1,0 +1,6 @@
+//! Runs transactions on rows that are asked for as they are needed.
+#![tactic(auto)]
+
+mod scopes;
+mod slots;
+mod values;
