@@ -12,8 +12,9 @@ use Rattle.sv_app.specs.declared.schemas.Ty.{Ty}
 use Rattle.sv_app.specs.declared.schemas.Ty.TheVariants as types
 use Rattle.sv_app.specs.Schema.{Declaration}
 use Rattle.sv_app.specs.Slots.{item, with_item}
-use Rattle.sv_app.specs.Symbols.{is_known, is_factor, is_grow_only, is_key_column, block_assigns, known_after}
+use Rattle.sv_app.specs.Symbols.{is_known, is_factor, is_key_column, block_assigns, known_after}
 use Rattle.sv_app.specs.Trees.{Term, Number, Words, Variable, Field, Old, Minus, Sum, Difference, Product, Test, Compare, Negation, Both, Either, Command, Declare, Assign, Fetch, Choose, ForRows, ForEach, Insert, Update, Remove, Abort, Reply, Block, Finish, Then, Transaction}
+use Rattle.sv_app.specs.Valid.{is_grow_only}
 
 -- the types of variables, and the tables of row variables, by the numbers of names
 pub record Names : Type 0 where

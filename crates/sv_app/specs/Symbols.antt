@@ -4,8 +4,6 @@ use Rattle.std.specs.List.{list_any}
 use Rattle.sv_app.specs.declared.apps.Ident.{Ident}
 use Rattle.sv_app.specs.declared.instances.Source.{Source}
 use Rattle.sv_app.specs.declared.instances.Source.TheVariants as sources
-use Rattle.sv_app.specs.declared.schemas.Kind.{Kind}
-use Rattle.sv_app.specs.declared.schemas.Kind.TheVariants as kinds
 use Rattle.sv_app.specs.Trees.{Term, Number, Words, Variable, Field, Old, Minus, Sum, Difference, Product, Command, Declare, Assign, Fetch, Choose, ForRows, ForEach, Insert, Update, Remove, Abort, Reply, Block, Finish, Then}
 
 abbrev pub is_same_source : Source → Source → Bool
@@ -25,12 +23,6 @@ abbrev pub is_factor : Term → Bool
 is_factor (Number n s) = true
 is_factor (Minus a s) = is_number a
 is_factor _ = false
-
--- the tables whose rows are never removed
-abbrev pub is_grow_only : Kind → Bool
-is_grow_only kinds.Aoset = true
-is_grow_only kinds.Auset = true
-is_grow_only _ = false
 
 abbrev pub is_key_column : List Ident → ℕ → Bool
 is_key_column key c = list_any (λ name. name.num == c) key

@@ -15,13 +15,15 @@ use Rattle.sv_app.specs.declared.schemas.Merge.{Merge}
 use Rattle.sv_app.specs.declared.schemas.Merge.TheVariants as merges
 use Rattle.sv_app.specs.Schema.{Declaration}
 use Rattle.sv_app.specs.Slots.{item, with_item}
-use Rattle.sv_app.specs.Symbols.{is_grow_only, is_key_column}
+use Rattle.sv_app.specs.Symbols.{is_key_column}
 use Rattle.sv_app.specs.Tables.{Row}
 use Rattle.sv_app.specs.Trees.{Term}
 use Rattle.sv_effect.specs.declared.ops.Write.{Write}
 use Rattle.sv_effect.specs.declared.ops.Write.TheVariants.{Delta, Set}
 use Rattle.sv_effect.specs.declared.ops.RowEffect.{RowEffect}
 use Rattle.sv_effect.specs.Applied.{place_of}
+use Rattle.sv_app.specs.Valid.{is_grow_only}
+use Rattle.sv_effect.specs.BareTables.{got_of}
 use Rattle.sv_effect.specs.RowChange.{zero_values}
 use Rattle.sv_effect.specs.RunValues.{nothing, Progress, put, Scope, with_progress, narrow, Evaluated, Leaves, Gives, then_value, val_of, column, read_old, value_of}
 use Rattle.sv_effect.specs.TablesOfCut.{number_in}
@@ -48,10 +50,6 @@ key_of (v ∷ vs) = record { first = v; second = second_of vs }
 -- the key of a row with these values
 abbrev pub key_in : List Ident → List Val → Key
 key_in key vs = key_of (map (λ name. item nothing vs name.num) key)
-
-abbrev pub got_of : Val → Got
-got_of (Int n) = gots.Num n
-got_of (IsText t) = gots.Text t
 
 -- a value after a write
 abbrev pub written_got : Write → Got → Got
