@@ -1,5 +1,5 @@
 -- What one statement of a run changes: the writes of an update and of an insert, and the row after them.
-use Rattle.std.specs.Prelude.{ℕ, zero, suc, ℤ, pos, ◌+ℤ◌, ◌-ℤ◌, ◌==◌, ◌||◌, if◌then◌else◌, Bool, true, false, List, [], ◌∷◌, ◌++◌, Option, Some, None, map}
+use Rattle.std.specs.Prelude.{ℕ, suc, ℤ, pos, ◌+ℤ◌, ◌-ℤ◌, ◌==◌, ◌||◌, if◌then◌else◌, Bool, true, false, List, [], ◌∷◌, ◌++◌, Option, Some, None, map, slice_get}
 use Rattle.sv_value.specs.declared.values.Key.{Key}
 use Rattle.sv_value.specs.declared.values.Val.{Val}
 use Rattle.sv_value.specs.declared.values.Val.TheVariants.{Int, Text as IsText}
@@ -77,10 +77,12 @@ abbrev pub set_of : Merge → ℕ → Val → Scope → Evaluated Write
 set_of merges.NumDelta c v s = then_value (read_old c s) (delta_to v)
 set_of _ c v s = Gives (Set v) s
 
+abbrev pub merge_in : Option Column → Merge
+merge_in None = merges.Plain
+merge_in (Some column) = column.merge
+
 abbrev pub merge_of : List Column → ℕ → Merge
-merge_of [] c = merges.Plain
-merge_of (column ∷ columns) zero = column.merge
-merge_of (column ∷ columns) (suc c) = merge_of columns c
+merge_of columns c = merge_in (slice_get columns c)
 
 -- the sets in order
 abbrev pub sets_made : List Column → List (Ident × Term) → Scope → Evaluated (List (ℕ × Write))

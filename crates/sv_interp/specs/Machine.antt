@@ -11,6 +11,10 @@ progress_of p = record { unit = p.unit; number = p.number; choices = p.choices; 
 abbrev pub scope_of : Scope → run.Scope
 scope_of s = record { values = s.values.items; rows = s.rows.items; old = s.before; progress = progress_of s.progress }
 
+abbrev pub as_evaluated : {A : Type 0} → Option A → run.Scope → Evaluated A
+as_evaluated None s = Leaves
+as_evaluated (Some v) s = Gives v s
+
 -- a value and the scope after it, or none where an integer left 64 bits
 abbrev pub evaluated : {A : Type 0} → Option A → Scope → Evaluated A
 evaluated None s = Leaves

@@ -4,3 +4,4 @@
 mod scopes;
 mod slots;
 mod values;
+mod writes;
