@@ -1,5 +1,5 @@
 -- What the interpreter holds, as the meaning of a run speaks of it.
-use Rattle.std.specs.Prelude.{Option, Some, None}
+use Rattle.std.specs.Prelude.{List, [], ◌∷◌, Option, Some, None}
 use Rattle.sv_interp.specs.declared.scopes.Progress.{Progress}
 use Rattle.sv_interp.specs.declared.scopes.Scope.{Scope}
 use Rattle.sv_effect.specs.RunValues as run
@@ -19,3 +19,7 @@ as_evaluated (Some v) s = Gives v s
 abbrev pub evaluated : {A : Type 0} → Option A → Scope → Evaluated A
 evaluated None s = Leaves
 evaluated (Some v) s = Gives v (scope_of s)
+
+abbrev pub listed : {A : Type 0} → Option A → List A
+listed None = []
+listed (Some x) = x ∷ []

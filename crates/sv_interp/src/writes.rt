@@ -57,7 +57,8 @@ pub fn make_writes(row: &mut Vec<Got>, writes: &[(u16, Write)]) -> Result<(), No
     Ok(())
 }
 
-fn delta_to(new: &Val, old: &Val) -> Option<Write>
+/// A counter goes from a value to another.
+pub fn delta_to(new: &Val, old: &Val) -> Option<Write>
     ensures { (s : RunScope) → delta_to new.now old.now s ≡ as_evaluated result s }
 {
     Some(Write::Delta(subtracted(new, old)?))
