@@ -186,7 +186,8 @@ fn insert_of(
     }
 }
 
-fn is_grow_only(kind: Kind) -> bool
+/// Whether rows of such a table are never removed.
+pub fn is_grow_only(kind: Kind) -> bool
     ensures { result ≡ is_grow_only kind }
 {
     match kind {
@@ -277,7 +278,8 @@ fn zeros_from(
     }
 }
 
-fn key_values(alloc: Global, key: &Key) -> Result<List<Val>, NoMemory>
+/// The values of a key.
+pub fn key_values(alloc: Global, key: &Key) -> Result<List<Val>, NoMemory>
     ensures { IfOk result (λ parts. key_values key.now ≡ parts) }
 {
     let mut parts = List::new(alloc);

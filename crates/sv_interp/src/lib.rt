@@ -2,6 +2,7 @@
 #![tactic(auto)]
 
 mod inserts;
+mod needs;
 mod scopes;
 mod slots;
 mod values;
