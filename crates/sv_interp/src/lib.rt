@@ -2,8 +2,10 @@
 #![tactic(auto)]
 
 mod inserts;
+mod looks;
 mod needs;
 mod scopes;
+mod states;
 mod slots;
 mod values;
 mod writes;

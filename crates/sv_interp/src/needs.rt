@@ -10,16 +10,11 @@ ghost use Rattle.sv_effect.specs.TablesOfCut.{is_place};
 ghost use Rattle.sv_interp.specs.Machine.{listed};
 
 use crate::inserts::{is_grow_only, key_values};
+use crate::looks::is_place;
 use std::alloc::Global;
 use sv_app::{Act, Ident, Inv, InvBody, Place, Table};
 use sv_effect::{Need, RowEffect, Write};
 use sv_value::{Key, List, NoMemory, Val};
-
-fn is_place(left: &Place, right: &Place) -> bool
-    ensures { result ≡ is_place left.now right.now }
-{
-    left.cmp(right).is_eq()
-}
 
 /// The place of the row that a change changes.
 fn place_of(effect: &RowEffect) -> Place
