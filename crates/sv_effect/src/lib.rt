@@ -11,6 +11,7 @@ mod outcomes;
 mod reads;
 mod rows;
 mod seen;
+mod outcomes;
 
 pub use asks::{ask_next, ask_row};
 pub use cells::{Cell, Row};
@@ -22,3 +23,4 @@ pub use outcomes::{Outcome, Ran};
 pub use reads::{Ask, Halt, Read, Seen, Told};
 pub use rows::{RowStore, Rows};
 pub use sv_app::Got;
+pub use outcomes::{Outcome, Ran};
