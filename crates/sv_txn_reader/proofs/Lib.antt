@@ -1,0 +1,3 @@
+pub mod DepthLaws
+pub mod Laws
+pub mod PieceLaws
