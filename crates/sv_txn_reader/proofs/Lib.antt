@@ -1,3 +1,3 @@
-pub mod DepthLaws
 pub mod Laws
+pub mod LimitLaws
 pub mod PieceLaws

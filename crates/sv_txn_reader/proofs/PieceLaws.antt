@@ -313,15 +313,41 @@ module _ {S : Type 0} (test : List Token → Bool) (turn : S → List Token → 
   pub turn_end : (s : S) (tokens : List Token) → test tokens ≡ false → turns_at test turn keep s tokens ≡ Ok (s, tokens)
   turn_end s tokens t = unrolled s tokens ∙ ap (λ b. cond b (turn s tokens >>= λ m rest. turns_at test turn keep m rest) (keep s tokens)) t
 
+-- nothing, or a turn
+abbrev pub Perhaps : {I S : Type 0} → (S → I → S → List Token → List Token → Type 0) → S → I → S → List Token → List Token → Type 0
+Perhaps T s = Either (Is s) (T s)
+
 -- what is asked of turns
 pub record Turning (M : Mode) {S : Type 0} (before clash test : List Token → Bool) (turn : S → List Token → Read S) (T : S → M.Index → S → List Token → List Token → Type 0) : Type 0 where
   pub alike : (a b : List Token) → Alike a b → test a ≡ test b
   pub none : test [] ≡ false
-  pub law : (s : S) → Law M before (T s) (guarded test (turn s))
+  pub took : (s : S) (tokens : List Token) (m : S) (rest : List Token) → test tokens ≡ true → turn s tokens ≡ Ok (m, rest) → Took M (T s) (guarded test (turn s)) tokens m rest
+  pub all : (s : S) (i : M.Index) (m : S) (l r : List Token) → T s i m l r → before r ≡ false → Reads M i (turn s l) m r
+  pub fails : (s : S) (tokens : List Token) (fault : Fault) → test tokens ≡ true → turn s tokens ≡ Err fault → Stuck M (Perhaps T s) (guarded test (turn s)) tokens fault
   pub first : (s : S) (i : M.Index) (m : S) (l r : List Token) → T s i m l r → test l ≡ true
   pub near_turn : (s : S) (i : M.Index) (m : S) (l r : List Token) → T s i m l r → before l ≡ false
   pub near_end : (l : List Token) → clash l ≡ false → before l ≡ false
   pub stop : (l : List Token) → clash l ≡ false → test l ≡ false
+
+-- turns each of which has a law
+pub lawful_turning : {M : Mode} {S : Type 0} {before clash test : List Token → Bool} {turn : S → List Token → Read S} {T : S → M.Index → S → List Token → List Token → Type 0}
+    → ((a b : List Token) → Alike a b → test a ≡ test b) → test [] ≡ false → ((s : S) → Law M before (T s) (turn s)) → ((s : S) (i : M.Index) (m : S) (l r : List Token) → T s i m l r → test l ≡ true)
+    → ((s : S) (i : M.Index) (m : S) (l r : List Token) → T s i m l r → before l ≡ false) → ((l : List Token) → clash l ≡ false → before l ≡ false) → ((l : List Token) → clash l ≡ false → test l ≡ false)
+    → Turning M before clash test turn T
+lawful_turning {M} {S} {before} {clash} {test} {turn} {T} alike none law first near_turn near_end stop = record {
+  alike = alike;
+  none = none;
+  took = λ s tokens m rest t e. took_map (λ x. x) (λ i a l r is. is) (λ last x near e. guard s last (sym (alike tokens last near) ∙ t) ∙ e) ((law s).took tokens m rest e);
+  all = λ s i m l r is clear. (law s).all i m l r is clear;
+  fails = λ s tokens fault t e. stuck_map (λ x. x) (λ i a l r is. Right is) (λ last x near e. guard s last (sym (alike tokens last near) ∙ t) ∙ e) ((law s).fails tokens fault e);
+  first = first;
+  near_turn = near_turn;
+  near_end = near_end;
+  stop = stop;
+}
+  where
+    guard : (s : S) (tokens : List Token) → test tokens ≡ true → guarded test (turn s) tokens ≡ turn s tokens
+    guard s tokens t = ap (λ b. cond b (turn s tokens) (refuse Syntax tokens)) t
 
 module _ {M : Mode} {S : Type 0} {before clash test : List Token → Bool} {turn : S → List Token → Read S} {T : S → M.Index → S → List Token → List Token → Type 0}
     (index : M.Index) (turning : Turning M before clash test turn T) where
@@ -329,7 +355,7 @@ module _ {M : Mode} {S : Type 0} {before clash test : List Token → Bool} {turn
   guard_read s tokens t = ap (λ b. cond b (turn s tokens) (refuse Syntax tokens)) t
 
   turn_took : (s : S) (tokens : List Token) (m : S) (rest : List Token) → test tokens ≡ true → turn s tokens ≡ Ok (m, rest) → Took M (T s) (guarded test (turn s)) tokens m rest
-  turn_took s tokens m rest t e = (turning.law s).took tokens m rest (guard_read s tokens t ∙ e)
+  turn_took s tokens m rest t e = turning.took s tokens m rest t e
 
   pub shorter : (s : S) (tokens : List Token) (m : S) (rest : List Token) → test tokens ≡ true → turn s tokens ≡ Ok (m, rest) → length rest < length tokens
   shorter s tokens m rest t e = by_front (turn_took s tokens m rest t e)
@@ -349,6 +375,13 @@ module _ {M : Mode} {S : Type 0} {before clash test : List Token → Bool} {turn
 
   into : (s : S) (i : M.Index) (e : S) (l r : List Token) → Then (T s) Rest i e l r → Rest s i e l r
   into s i e l r t = Turn s t.head e l t.middle r t.first t.second
+
+  perhaps_into : (s : S) (i : M.Index) (e : S) (l r : List Token) → Then (Perhaps T s) Rest i e l r → Rest s i e l r
+  perhaps_into s i e l r t = by_first t.head t.middle t.first t.second
+    where
+      by_first : (m : S) (middle : List Token) → Perhaps T s i m l middle → Turns T i m e middle r → Turns T i s e l r
+      by_first m middle (Left is) more = subst (λ x. Turns T i x e l r) is.is (subst (λ x. Turns T i m e x r) (sym is.empty) more)
+      by_first m middle (Right is) more = Turn s m e l middle r is more
 
   some_rest : (s : S) → Opens M (Rest s) []
   some_rest s = record { more = []; item = s; is = λ i m loose. Stop s m m refl }
@@ -392,8 +425,8 @@ module _ {M : Mode} {S : Type 0} {before clash test : List Token → Bool} {turn
     where
       by_bound : ((m : S) (r : List Token) → length r < n → all_turns m r ≡ Err fault → Stuck M (Rest m) (all_turns m) r fault) → test tokens ≡ true
           → (turn s tokens ≡ Err fault) ⊎ Bound (turn s tokens) (λ m r. all_turns m r) (Err fault) → Stuck M (Rest s) (all_turns s) tokens fault
-      by_bound more t (inl e) = stuck_map (λ x. x) (into s) (again_err s tokens t)
-          (stuck_first M (T s) Rest (guarded test (turn s)) (λ m r. all_turns m r) some_rest ((turning.law s).fails tokens fault (guard_read s tokens t ∙ e)))
+      by_bound more t (inl e) = stuck_map (λ x. x) (perhaps_into s) (again_err s tokens t)
+          (stuck_first M (Perhaps T s) Rest (guarded test (turn s)) (λ m r. all_turns m r) some_rest (turning.fails s tokens fault t e))
       by_bound more t (inr b) = stuck_map (λ x. x) (into s) (again_err s tokens t)
           (stuck_second M (T s) Rest (guarded test (turn s)) (λ m r. all_turns m r) (turn_took s tokens b.item b.rest t b.is)
           (more b.item b.rest (let less = shorter s tokens b.item b.rest t b.is in omega (arith, less, lt)) b.left))
@@ -412,7 +445,7 @@ module _ {M : Mode} {S : Type 0} {before clash test : List Token → Bool} {turn
   all_from i _ _ _ _ (Turn s m e l middle r first more) clear =
       let t : test l ≡ true = turning.first s i m l middle first in
       reads_same (turn_on test turn shorter s l t ∙ ap (λ (x : Read S). x >>= λ m r. all_turns m r) (sym (guard_read s l t)))
-      (reads_then M (T s) Rest (guarded test (turn s)) (λ m r. all_turns m r) ((turning.law s).all i m l middle first (near i m e middle r more clear)) (all_from i m e middle r more clear))
+      (reads_then M (T s) Rest (guarded test (turn s)) (λ m r. all_turns m r) (reads_same (guard_read s l t) (turning.all s i m l middle first (near i m e middle r more clear))) (all_from i m e middle r more clear))
 
   pub turns_law : (s : S) → Law M clash (λ i. Turns T i s) (turns_at test turn keep s)
   turns_law s = record {

@@ -22,12 +22,16 @@ use Rattle.sv_txn_reader.specs.declared.heads.Head.TheVariants as heads
 use Rattle.sv_txn_reader.specs.Grammar.{spot_of, placed}
 use Rattle.sv_txn_reader.specs.Standing.{counts, plus}
 
--- an expression with its depth, and a condition with its depth
+-- an expression, and how much deeper it is than a name; a condition, and how much deeper it is than a comparison of names
 abbrev pub Graded : Type 0
 Graded = Term × ℕ
 
 abbrev pub Judged : Type 0
 Judged = Test × ℕ
+
+-- where there is no room
+abbrev pub never : {A : Type 0} → List Token → Read A
+never tokens = refuse Syntax tokens
 
 -- the end of turns
 abbrev pub keep : {S : Type 0} → S → List Token → Read S
@@ -35,8 +39,8 @@ keep s tokens = Ok (s, tokens)
 
 -- a number or a text
 abbrev pub literal : Spot → TokenKind → Option Graded
-literal spot (Number n) = Some (trees.Number n spot, 1)
-literal spot (Text t) = Some (trees.Words t spot, 1)
+literal spot (Number n) = Some (trees.Number n spot, 0)
+literal spot (Text t) = Some (trees.Words t spot, 0)
 literal spot _ = None
 
 abbrev pub literal_of : Token → Option Graded
@@ -45,12 +49,12 @@ literal_of token = literal token.spot token.kind
 -- what stands behind a name in an expression
 unfoldable pub field_at : Ident → List Token → Read Graded
 field_at x tokens =
-    if is_next (Mark marks.Dot) tokens then (kind_at (Mark marks.Dot) tokens >>= λ _ r1. name_at r1 >>= λ c r2. Ok ((trees.Field x c x.spot, 1), r2))
-    else Ok ((trees.Variable x x.spot, 1), tokens)
+    if is_next (Mark marks.Dot) tokens then (kind_at (Mark marks.Dot) tokens >>= λ _ r1. name_at r1 >>= λ c r2. Ok ((trees.Field x c x.spot, 0), r2))
+    else Ok ((trees.Variable x x.spot, 0), tokens)
 
 unfoldable pub old_at : List Token → Read Graded
 old_at tokens =
-    kind_at (Name (codes "old")) tokens >>= λ s r1. kind_at (Mark marks.Dot) r1 >>= λ _ r2. name_at r2 >>= λ c r3. Ok ((trees.Old c s, 1), r3)
+    kind_at (Name (codes "old")) tokens >>= λ s r1. kind_at (Mark marks.Dot) r1 >>= λ _ r2. name_at r2 >>= λ c r3. Ok ((trees.Old c s, 0), r3)
 
 unfoldable pub leaf_at : List Token → Read Graded
 leaf_at tokens =
@@ -65,21 +69,21 @@ unfoldable pub group_at : (List Token → Read Graded) → List Token → Read G
 group_at sums tokens =
     kind_at (Mark marks.LeftParen) tokens >>= λ s r1. sums r1 >>= λ e r2. kind_at (Mark marks.RightParen) r2 >>= λ _ r3. Ok ((placed s e.0, suc e.1), r3)
 
--- a factor of at most this depth; in it stand those factors and those expressions
+-- a factor where there is so much room to go deeper; in it stand those factors and those expressions
 unfoldable pub factor_with : ℕ → (List Token → Read Graded) → (List Token → Read Graded) → List Token → Read Graded
-factor_with most factor sums tokens =
-    if is_next (Mark marks.Minus) tokens then (if nat_le most 1 then refuse Many tokens else sign_at factor tokens)
-    else if is_next (Mark marks.LeftParen) tokens then (if nat_le most 1 then refuse Many tokens else group_at sums tokens)
+factor_with room factor sums tokens =
+    if is_next (Mark marks.Minus) tokens then (if nat_le room 0 then refuse Many tokens else sign_at factor tokens)
+    else if is_next (Mark marks.LeftParen) tokens then (if nat_le room 0 then refuse Many tokens else group_at sums tokens)
     else leaf_at tokens
 
 -- one operator more, and what it joins
 unfoldable pub product_turn : ℕ → (List Token → Read Graded) → Graded → List Token → Read Graded
-product_turn most factor a tokens =
-    if nat_le most a.1 then refuse Many tokens
+product_turn room factor a tokens =
+    if nat_le room a.1 then refuse Many tokens
     else (kind_at (Mark marks.Star) tokens >>= λ _ r1. factor r1 >>= λ b r2. Ok ((trees.Product a.0 b.0 (spot_of a.0), suc (max a.1 b.1)), r2))
 
 unfoldable pub products_with : ℕ → (List Token → Read Graded) → (List Token → Read Graded) → List Token → Read Graded
-products_with most first other tokens = first tokens >>= λ a r. turns_at (is_next (Mark marks.Star)) (product_turn most other) keep a r
+products_with room first other tokens = first tokens >>= λ a r. turns_at (is_next (Mark marks.Star)) (product_turn room other) keep a r
 
 abbrev pub is_sign : List Token → Bool
 is_sign tokens = is_next (Mark marks.Plus) tokens || is_next (Mark marks.Minus) tokens
@@ -90,27 +94,27 @@ joined_at products a tokens =
     else (kind_at (Mark marks.Minus) tokens >>= λ _ r1. products r1 >>= λ b r2. Ok ((trees.Difference a.0 b.0 (spot_of a.0), suc (max a.1 b.1)), r2))
 
 unfoldable pub sum_turn : ℕ → (List Token → Read Graded) → Graded → List Token → Read Graded
-sum_turn most products a tokens = if nat_le most a.1 then refuse Many tokens else joined_at products a tokens
+sum_turn room products a tokens = if nat_le room a.1 then refuse Many tokens else joined_at products a tokens
 
 unfoldable pub sums_with : ℕ → (List Token → Read Graded) → (List Token → Read Graded) → List Token → Read Graded
-sums_with most first other tokens = first tokens >>= λ a r. turns_at is_sign (sum_turn most other) keep a r
+sums_with room first other tokens = first tokens >>= λ a r. turns_at is_sign (sum_turn room other) keep a r
 
--- what is read of at most this depth
+-- what is read where there is so much room
 unfoldable mutual
   pub factor_at : ℕ → List Token → Read Graded
-  factor_at zero tokens = refuse Syntax tokens
-  factor_at (suc most) tokens = factor_with (suc most) (factor_at most) (sums_at most) tokens
+  factor_at zero tokens = factor_with 0 never never tokens
+  factor_at (suc room) tokens = factor_with (suc room) (factor_at room) (sums_at room) tokens
 
   pub products_at : ℕ → List Token → Read Graded
-  products_at zero tokens = refuse Syntax tokens
-  products_at (suc most) tokens = products_with (suc most) (factor_with (suc most) (factor_at most) (sums_at most)) (factor_at most) tokens
+  products_at zero tokens = products_with 0 (factor_with 0 never never) never tokens
+  products_at (suc room) tokens = products_with (suc room) (factor_with (suc room) (factor_at room) (sums_at room)) (factor_at room) tokens
 
   pub sums_at : ℕ → List Token → Read Graded
-  sums_at zero tokens = refuse Syntax tokens
-  sums_at (suc most) tokens = sums_with (suc most) (products_with (suc most) (factor_with (suc most) (factor_at most) (sums_at most)) (factor_at most)) (products_at most) tokens
+  sums_at zero tokens = sums_with 0 (products_with 0 (factor_with 0 never never) never) never tokens
+  sums_at (suc room) tokens = sums_with (suc room) (products_with (suc room) (factor_with (suc room) (factor_at room) (sums_at room)) (factor_at room)) (products_at room) tokens
 
 unfoldable pub expr_at : List Token → Read Term
-expr_at tokens = sums_at 16 tokens >>= λ e r. Ok (e.0, r)
+expr_at tokens = sums_at 15 tokens >>= λ e r. Ok (e.0, r)
 
 -- conditions
 
@@ -132,7 +136,7 @@ relation_of token = relation_in token.kind
 
 unfoldable pub comparison_at : (List Token → Read Graded) → List Token → Read Judged
 comparison_at side tokens =
-    side tokens >>= λ a r1. token_at relation_of r1 >>= λ by r2. side r2 >>= λ b r3. Ok ((trees.Compare a.0 by b.0, suc (max a.1 b.1)), r3)
+    side tokens >>= λ a r1. token_at relation_of r1 >>= λ by r2. side r2 >>= λ b r3. Ok ((trees.Compare a.0 by b.0, max a.1 b.1), r3)
 
 unfoldable pub negation_at : (List Token → Read Judged) → List Token → Read Judged
 negation_at literal tokens = kind_at (Name (codes "not")) tokens >>= λ _ r1. literal r1 >>= λ t r2. Ok ((trees.Negation t.0, suc t.1), r2)
@@ -141,45 +145,45 @@ unfoldable pub bracket_at : (List Token → Read Judged) → List Token → Read
 bracket_at inside tokens =
     kind_at (Mark marks.LeftBracket) tokens >>= λ _ r1. inside r1 >>= λ t r2. kind_at (Mark marks.RightBracket) r2 >>= λ _ r3. Ok ((t.0, suc t.1), r3)
 
--- a literal of at most this depth; in it stand those sides, literals and conditions
+-- a literal where there is so much room; in it stand those sides, literals and conditions
 unfoldable pub literal_with : ℕ → (List Token → Read Graded) → (List Token → Read Judged) → (List Token → Read Judged) → List Token → Read Judged
-literal_with most side literal inside tokens =
-    if is_next (Name (codes "not")) tokens then (if nat_le most 2 then refuse Many tokens else negation_at literal tokens)
-    else if is_next (Mark marks.LeftBracket) tokens then (if nat_le most 2 then refuse Many tokens else bracket_at inside tokens)
+literal_with room side literal inside tokens =
+    if is_next (Name (codes "not")) tokens then (if nat_le room 0 then refuse Many tokens else negation_at literal tokens)
+    else if is_next (Mark marks.LeftBracket) tokens then (if nat_le room 0 then refuse Many tokens else bracket_at inside tokens)
     else comparison_at side tokens
 
 unfoldable pub and_turn : ℕ → (List Token → Read Judged) → Judged → List Token → Read Judged
-and_turn most literal t tokens =
-    if nat_le most t.1 then refuse Many tokens
+and_turn room literal t tokens =
+    if nat_le room t.1 then refuse Many tokens
     else (kind_at (Name (codes "and")) tokens >>= λ _ r1. literal r1 >>= λ u r2. Ok ((trees.Both t.0 u.0, suc (max t.1 u.1)), r2))
 
 unfoldable pub conjunctions_with : ℕ → (List Token → Read Judged) → (List Token → Read Judged) → List Token → Read Judged
-conjunctions_with most first other tokens = first tokens >>= λ t r. turns_at (is_next (Name (codes "and"))) (and_turn most other) keep t r
+conjunctions_with room first other tokens = first tokens >>= λ t r. turns_at (is_next (Name (codes "and"))) (and_turn room other) keep t r
 
 unfoldable pub or_turn : ℕ → (List Token → Read Judged) → Judged → List Token → Read Judged
-or_turn most conjunctions t tokens =
-    if nat_le most t.1 then refuse Many tokens
+or_turn room conjunctions t tokens =
+    if nat_le room t.1 then refuse Many tokens
     else (kind_at (Name (codes "or")) tokens >>= λ _ r1. conjunctions r1 >>= λ u r2. Ok ((trees.Either t.0 u.0, suc (max t.1 u.1)), r2))
 
 unfoldable pub disjunctions_with : ℕ → (List Token → Read Judged) → (List Token → Read Judged) → List Token → Read Judged
-disjunctions_with most first other tokens = first tokens >>= λ t r. turns_at (is_next (Name (codes "or"))) (or_turn most other) keep t r
+disjunctions_with room first other tokens = first tokens >>= λ t r. turns_at (is_next (Name (codes "or"))) (or_turn room other) keep t r
 
 unfoldable mutual
   pub literal_at : ℕ → List Token → Read Judged
-  literal_at zero tokens = refuse Syntax tokens
-  literal_at (suc most) tokens = literal_with (suc most) (sums_at most) (literal_at most) (disjunctions_at most) tokens
+  literal_at zero tokens = literal_with 0 (sums_at 0) never never tokens
+  literal_at (suc room) tokens = literal_with (suc room) (sums_at (suc room)) (literal_at room) (disjunctions_at room) tokens
 
   pub conjunctions_at : ℕ → List Token → Read Judged
-  conjunctions_at zero tokens = refuse Syntax tokens
-  conjunctions_at (suc most) tokens = conjunctions_with (suc most) (literal_with (suc most) (sums_at most) (literal_at most) (disjunctions_at most)) (literal_at most) tokens
+  conjunctions_at zero tokens = conjunctions_with 0 (literal_with 0 (sums_at 0) never never) never tokens
+  conjunctions_at (suc room) tokens = conjunctions_with (suc room) (literal_with (suc room) (sums_at (suc room)) (literal_at room) (disjunctions_at room)) (literal_at room) tokens
 
   pub disjunctions_at : ℕ → List Token → Read Judged
-  disjunctions_at zero tokens = refuse Syntax tokens
-  disjunctions_at (suc most) tokens =
-      disjunctions_with (suc most) (conjunctions_with (suc most) (literal_with (suc most) (sums_at most) (literal_at most) (disjunctions_at most)) (literal_at most)) (conjunctions_at most) tokens
+  disjunctions_at zero tokens = disjunctions_with 0 (conjunctions_with 0 (literal_with 0 (sums_at 0) never never) never) never tokens
+  disjunctions_at (suc room) tokens =
+      disjunctions_with (suc room) (conjunctions_with (suc room) (literal_with (suc room) (sums_at (suc room)) (literal_at room) (disjunctions_at room)) (literal_at room)) (conjunctions_at room) tokens
 
 unfoldable pub cond_at : List Token → Read Test
-cond_at tokens = disjunctions_at 16 tokens >>= λ t r. Ok (t.0, r)
+cond_at tokens = disjunctions_at 14 tokens >>= λ t r. Ok (t.0, r)
 
 -- lists
 
