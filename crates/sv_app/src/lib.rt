@@ -4,6 +4,8 @@
 mod acts;
 mod apps;
 mod gots;
+mod instances;
+mod names;
 mod parts;
 mod places;
 mod refusals;
@@ -15,6 +17,8 @@ mod words;
 pub use acts::Act;
 pub use apps::{App, Ident};
 pub use gots::Got;
+pub use instances::{Instance, Source};
+pub use names::{Declared, Known, Meaning};
 pub use parts::{Parts, each, if_else, parts_of, rows};
 pub use places::Place;
 pub use refusals::{Code, Refusal, Stop};

@@ -4,7 +4,7 @@ use Rattle.std.proofs.lemmas.Cmp.{eq_by_cmp_equiv}
 use Rattle.std.proofs.lemmas.List.Elements.{All-nil, All-cons, All-head, All-tail}
 use Rattle.std.proofs.lemmas.Map.Views.{tells_apart}
 use Rattle.std.proofs.lemmas.Slice.Eq.{bytes_eq-Decides}
-use Rattle.sv_app.specs.declared.apps.Txn.{Txn}
+use Rattle.sv_tool.specs.declared.readers.Adder.{Adder}
 use Rattle.sv_app.specs.declared.places.Place.{Place}
 use Rattle.sv_app.specs.declared.requests.InitRow.{InitRow}
 use Rattle.sv_app.proofs.PlaceLaws.{place_total, exact_places}
@@ -44,7 +44,7 @@ neither false b e = record { first = refl; then = e }
 name_apart : (name other : List ℕ) → bytes_eq other name ≡ false → name ≢ other
 name_apart name other e same = let yes : bytes_eq other name ≡ true = (bytes_eq-Decides other name).1 (sym same) in absurd cc
 
-no_name : (name : List ℕ) (txns : List Txn) → has_name name txns ≡ false → All (λ other. name ≢ other) (names_of txns)
+no_name : (name : List ℕ) (txns : List Adder) → has_name name txns ≡ false → All (λ other. name ≢ other) (names_of txns)
 no_name name [] e = All-nil (λ other. name ≢ other)
 no_name name (txn ∷ txns) e =
     let n = neither (bytes_eq txn.name.name name) (has_name name txns) e in
@@ -57,19 +57,19 @@ test_apart name other ne = by_test (bytes_eq other name) refl
     by_test true t = absurd (ne (sym ((bytes_eq-Decides other name).0 t)))
     by_test false t = t
 
-name_none : (name : List ℕ) (txns : List Txn) → All (λ other. name ≢ other) (names_of txns) → has_name name txns ≡ false
+name_none : (name : List ℕ) (txns : List Adder) → All (λ other. name ≢ other) (names_of txns) → has_name name txns ≡ false
 name_none name [] all = refl
 name_none name (txn ∷ txns) all =
     let first : bytes_eq txn.name.name name ≡ false = test_apart name txn.name.name (All-head (λ other. name ≢ other) txn.name.name (names_of txns) all) in
     rw first (name_none name txns (All-tail (λ other. name ≢ other) txn.name.name (names_of txns) all))
 
-pub are_different : (txns : List Txn) → names_differ txns ≡ true → AreDifferent (names_of txns)
+pub are_different : (txns : List Adder) → names_differ txns ≡ true → AreDifferent (names_of txns)
 are_different [] e = tt
 are_different (txn ∷ txns) e =
     let b = both (not (has_name txn.name.name txns)) (names_differ txns) e in
     (no_name txn.name.name txns (not_true (has_name txn.name.name txns) b.first), are_different txns b.then)
 
-pub different_are : (txns : List Txn) → AreDifferent (names_of txns) → names_differ txns ≡ true
+pub different_are : (txns : List Adder) → AreDifferent (names_of txns) → names_differ txns ≡ true
 different_are [] d = refl
 different_are (txn ∷ txns) d =
     both_true (not (has_name txn.name.name txns)) (names_differ txns) (not_false (has_name txn.name.name txns) (name_none txn.name.name txns d.0)) (different_are txns d.1)

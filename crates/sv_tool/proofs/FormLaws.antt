@@ -8,7 +8,7 @@ use Rattle.sv_lex.specs.declared.tokens.TokenKind.{TokenKind}
 use Rattle.sv_lex.specs.declared.tokens.TokenKind.TheVariants.{Name, Mark}
 use Rattle.sv_value.specs.declared.packets.Packet.TheVariants.{Blue, Red}
 use Rattle.sv_app.specs.declared.apps.Ident.{Ident}
-use Rattle.sv_app.specs.declared.apps.Txn.{Txn}
+use Rattle.sv_tool.specs.declared.readers.Adder.{Adder}
 use Rattle.sv_app.specs.declared.requests.InitRow.{InitRow}
 use Rattle.sv_core.specs.Sound.{AreDistinct}
 use Rattle.sv_tool.specs.declared.readers.Parts.{Parts}
@@ -54,7 +54,7 @@ on_bound : {A B G : Type 0} (read : Read A) (more : A → List Token → Read B)
     → ((item : A) (rest : List Token) → read ≡ Some (item, rest) → more item rest ≡ Some (answer, last) → G) → G
 on_bound read more answer last e next = let b = bound read more answer last e in next b.item b.rest b.is b.left
 
-txns_read : (schema : Schema) (tokens : List Token) (txns : List Txn) (rest : List Token) → txns_at schema tokens ≡ Some (txns, rest)
+txns_read : (schema : Schema) (tokens : List Token) (txns : List Adder) (rest : List Token) → txns_at schema tokens ≡ Some (txns, rest)
     → ReadItem (AreMany (IsTxn schema.table.name schema.counter)) tokens (names_of txns) rest
 txns_read schema tokens txns rest e =
     many_read (txn_at schema) (IsTxn schema.table.name schema.counter) (λ txn. txn.name.name)
@@ -68,7 +68,7 @@ rows_read table tokens rows rest e =
     (λ num from row to is. let r = row_read table from row to is in record { front = r.front; whole = r.whole; is = r.is })
     0 1024 tokens rows rest e)
 
-steps_read : (table : List ℕ) (txns : List Txn) (sites : ℕ) (tokens : List Token) (steps : List Step) (rest : List Token) → steps_at table txns sites tokens ≡ Some (steps, rest)
+steps_read : (table : List ℕ) (txns : List Adder) (sites : ℕ) (tokens : List Token) (steps : List Step) (rest : List Token) → steps_at table txns sites tokens ≡ Some (steps, rest)
     → ReadItem (AreMany (IsStep table (names_of txns) sites)) tokens steps rest
 steps_read table txns sites tokens steps rest e =
     subst (λ (l : List Step). ReadItem (AreMany (IsStep table (names_of txns) sites)) tokens l rest) (map-id steps) (
@@ -205,7 +205,7 @@ parts_form tokens parts rest r w = record {
   steps = r.steps;
   names = w.names;
   keys = w.keys;
-  txn_count = let same : length (names_of parts.txns) ≡ length parts.txns = length-map parts.txns (λ (txn : Txn). txn.name.name) in record { from = omega (arith, same, w.some); to = omega (arith, same, r.txn_count) };
+  txn_count = let same : length (names_of parts.txns) ≡ length parts.txns = length-map parts.txns (λ (txn : Adder). txn.name.name) in record { from = omega (arith, same, w.some); to = omega (arith, same, r.txn_count) };
   row_count = r.row_count;
   site_count = r.site_count;
   step_count = r.step_count;
@@ -248,7 +248,7 @@ after_all ks tokens last more answer e next =
 
 -- the transactions, rows and steps that stand first are read
 record TxnsThere (schema : Schema) (tokens last : List Token) (names : List (List ℕ)) : Type 0 where
-  pub found : List Txn
+  pub found : List Adder
   pub is : txns_at schema (tokens ++ last) ≡ Some (found, last)
   pub seen : names_of found ≡ names
 
@@ -270,7 +270,7 @@ rows_there table tokens last rows are end few =
     let same : all.found ≡ rows = sym (map-id all.found) ∙ all.seen in
     all.is ∙ ap (λ (l : List InitRow). Some (l, last)) same
 
-steps_there : (table : List ℕ) (txns : List Txn) (sites : ℕ) (tokens last : List Token) (steps : List Step) → AreDifferent (names_of txns)
+steps_there : (table : List ℕ) (txns : List Adder) (sites : ℕ) (tokens last : List Token) (steps : List Step) → AreDifferent (names_of txns)
     → AreMany (IsStep table (names_of txns) sites) tokens steps → ends last ≡ true → length steps ≤ 65536 → steps_at table txns sites (tokens ++ last) ≡ Some (steps, last)
 steps_there table txns sites tokens last steps d are end few =
     let all = many_there (λ _. step_at table txns sites) (IsStep table (names_of txns) sites) (λ step. step)
@@ -327,7 +327,7 @@ form_there tokens form f =
     let at = λ (g : Form → Type 0) (h : g form). subst g (sym p.same) h in
     let w : WholeFacts [] p.parts = record {
       ended = refl;
-      some = let same : length (names_of p.parts.txns) ≡ length p.parts.txns = length-map p.parts.txns (λ (txn : Txn). txn.name.name) in
+      some = let same : length (names_of p.parts.txns) ≡ length p.parts.txns = length-map p.parts.txns (λ (txn : Adder). txn.name.name) in
           let few : 1 ≤ length (names_of p.parts.txns) = at (λ x. 1 ≤ length x.txns) f.txn_count.from in
           omega (arith, same, few);
       names = at (λ x. AreDifferent x.txns) f.names;

@@ -7,7 +7,7 @@ use Rattle.sv_lex.specs.declared.tokens.Token.{Token}
 use Rattle.sv_lex.specs.declared.tokens.TokenKind.{TokenKind}
 use Rattle.sv_lex.specs.declared.tokens.TokenKind.TheVariants.{Name, Mark}
 use Rattle.sv_app.specs.declared.apps.Ident.{Ident}
-use Rattle.sv_app.specs.declared.apps.Txn.{Txn}
+use Rattle.sv_tool.specs.declared.readers.Adder.{Adder}
 use Rattle.sv_app.specs.declared.requests.InitRow.{InitRow}
 use Rattle.sv_tool.specs.declared.readers.Pair.{Pair}
 use Rattle.sv_tool.specs.declared.readers.Schema.{Schema}
@@ -110,13 +110,13 @@ table_there table key counter tokens last t =
           rw (differ_test key counter t.differ, none_there b7 last k7) refl);
     }
 
-pub record ReadTxn (schema : Schema) (num : ℕ) (tokens : List Token) (txn : Txn) (rest : List Token) : Type 0 where
+pub record ReadTxn (schema : Schema) (num : ℕ) (tokens : List Token) (txn : Adder) (rest : List Token) : Type 0 where
   pub front : List Token
   pub whole : tokens ≡ front ++ rest
   pub is : IsTxn schema.table.name schema.counter front txn.name.name
   pub numbered : txn.name.num ≡ num
 
-pub txn_read : (schema : Schema) (num : ℕ) (tokens : List Token) (txn : Txn) (rest : List Token) → txn_at schema num tokens ≡ Some (txn, rest) → ReadTxn schema num tokens txn rest
+pub txn_read : (schema : Schema) (num : ℕ) (tokens : List Token) (txn : Adder) (rest : List Token) → txn_at schema num tokens ≡ Some (txn, rest) → ReadTxn schema num tokens txn rest
 unfolding txn_at
 txn_read schema num tokens txn rest e =
     on_after (word (codes "txn") ∷ []) _ txn rest tokens e λ r1 t1 e1.
@@ -133,14 +133,14 @@ txn_read schema num tokens txn rest e =
     record {
       front = took.front;
       whole = took.whole ∙ ap (λ (l : List Token). took.front ++ l) d.1.rests;
-      is = subst (λ (t : Txn). IsTxn schema.table.name schema.counter took.front t.name.name) d.1.item
+      is = subst (λ (t : Adder). IsTxn schema.table.name schema.counter took.front t.name.name) d.1.item
           (record { first = first; second = second; written = took.are; name_free = name_free; first_free = first_free; second_free = second_free; differ = d.0 });
-      numbered = ap (λ (t : Txn). t.name.num) (sym d.1.item);
+      numbered = ap (λ (t : Adder). t.name.num) (sym d.1.item);
     }
 
 -- a transaction that stands first is read
 pub record TxnThere (schema : Schema) (num : ℕ) (name : List ℕ) (tokens last : List Token) : Type 0 where
-  pub txn : Txn
+  pub txn : Adder
   pub is : txn_at schema num (tokens ++ last) ≡ Some (txn, last)
   pub named : txn.name.name ≡ name
 

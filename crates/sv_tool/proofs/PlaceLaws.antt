@@ -8,13 +8,13 @@ use Rattle.std.proofs.lemmas.List.Quantifiers.{position-Some}
 use Rattle.std.proofs.lemmas.List.Sums.{position_or_len_is}
 use Rattle.std.proofs.lemmas.Option.{slice_get-map, slice_get_within, slice_get-get_or, get_or_from_slice_get}
 use Rattle.std.proofs.lemmas.Slice.Eq.{bytes_eq-Decides}
-use Rattle.sv_app.specs.declared.apps.Txn.{Txn}
+use Rattle.sv_tool.specs.declared.readers.Adder.{Adder}
 use Rattle.sv_tool.specs.Grammar.{AreDifferent}
 
-abbrev pub names_of : List Txn → List (List ℕ)
+abbrev pub names_of : List Adder → List (List ℕ)
 names_of txns = map (λ txn. txn.name.name) txns
 
-abbrev pub place_of : List ℕ → List Txn → Option ℕ
+abbrev pub place_of : List ℕ → List Adder → Option ℕ
 place_of name txns = position (λ txn. bytes_eq txn.name.name name) txns
 
 all_get : {A : Type 0} (P : A → Type 0) (xs : List A) (i : ℕ) (x : A) → All P xs → slice_get xs i ≡ Some x → P x
@@ -28,39 +28,39 @@ earlier (n ∷ names) zero k name other d e f lt = absurd (omega (arith, lt))
 earlier (n ∷ names) (suc i) zero name other d e f lt = let same : n ≡ other = cc in subst (λ o. o ≢ name) same (all_get (λ o. n ≢ o) names i name d.0 e)
 earlier (n ∷ names) (suc i) (suc k) name other d e f lt = earlier names i k name other d.1 e f (omega (arith, lt))
 
-txn_at : (txns : List Txn) (i : ℕ) (name : List ℕ) → slice_get (names_of txns) i ≡ Some name → (txn : Txn) × (slice_get txns i ≡ Some txn) × (txn.name.name ≡ name)
-txn_at txns i name e = by_case (slice_get txns i) refl (sym (slice_get-map (λ (txn : Txn). txn.name.name) txns i) ∙ e)
+txn_at : (txns : List Adder) (i : ℕ) (name : List ℕ) → slice_get (names_of txns) i ≡ Some name → (txn : Adder) × (slice_get txns i ≡ Some txn) × (txn.name.name ≡ name)
+txn_at txns i name e = by_case (slice_get txns i) refl (sym (slice_get-map (λ (txn : Adder). txn.name.name) txns i) ∙ e)
   where
-    by_case : (found : Option Txn) → slice_get txns i ≡ found → option_map (λ (txn : Txn). txn.name.name) found ≡ Some name → (txn : Txn) × (slice_get txns i ≡ Some txn) × (txn.name.name ≡ name)
+    by_case : (found : Option Adder) → slice_get txns i ≡ found → option_map (λ (txn : Adder). txn.name.name) found ≡ Some name → (txn : Adder) × (slice_get txns i ≡ Some txn) × (txn.name.name ≡ name)
     by_case None is e = absurd cc
     by_case (Some txn) is e = (txn, is, cc)
 
 -- the place that is found has the name
-pub place_has : (name : List ℕ) (txns : List Txn) (i : ℕ) → place_of name txns ≡ Some i → slice_get (names_of txns) i ≡ Some name
+pub place_has : (name : List ℕ) (txns : List Adder) (i : ℕ) → place_of name txns ≡ Some i → slice_get (names_of txns) i ≡ Some name
 place_has name [] i e = absurd cc
 place_has name (first ∷ txns) i e =
-    let p = position-Some (λ (txn : Txn). bytes_eq txn.name.name name) (first ∷ txns) i first e in
+    let p = position-Some (λ (txn : Adder). bytes_eq txn.name.name name) (first ∷ txns) i first e in
     let named : (get_or (first ∷ txns) i first).name.name ≡ name = (bytes_eq-Decides (get_or (first ∷ txns) i first).name.name name).0 p.1 in
-    slice_get-map (λ (txn : Txn). txn.name.name) (first ∷ txns) i
-    ∙ ap (λ (found : Option Txn). option_map (λ (txn : Txn). txn.name.name) found) (slice_get-get_or (first ∷ txns) i first p.0)
+    slice_get-map (λ (txn : Adder). txn.name.name) (first ∷ txns) i
+    ∙ ap (λ (found : Option Adder). option_map (λ (txn : Adder). txn.name.name) found) (slice_get-get_or (first ∷ txns) i first p.0)
     ∙ ap (λ n. Some n) named
 
 -- the place that has the name is found
-pub has_place : (name : List ℕ) (txns : List Txn) (i : ℕ) → AreDifferent (names_of txns) → slice_get (names_of txns) i ≡ Some name → place_of name txns ≡ Some i
+pub has_place : (name : List ℕ) (txns : List Adder) (i : ℕ) → AreDifferent (names_of txns) → slice_get (names_of txns) i ≡ Some name → place_of name txns ≡ Some i
 has_place name txns i d e =
     let t = txn_at txns i name e in
     let within : i < length txns = slice_get_within txns i t.0 t.1 in
-    let here : bytes_eq (get_or txns i t.0).name.name name ≡ true = (bytes_eq-Decides (get_or txns i t.0).name.name name).1 (ap (λ (x : Txn). x.name.name) (get_or_from_slice_get txns i t.0 t.0 t.1) ∙ t.2) in
+    let here : bytes_eq (get_or txns i t.0).name.name name ≡ true = (bytes_eq-Decides (get_or txns i t.0).name.name name).1 (ap (λ (x : Adder). x.name.name) (get_or_from_slice_get txns i t.0 t.0 t.1) ∙ t.2) in
     let before : (k : ℕ) → k < i → bytes_eq (get_or txns k t.0).name.name name ≡ false
     = λ k lt. not_named (get_or txns k t.0).name.name (earlier (names_of txns) i k name (get_or txns k t.0).name.name d e (named_at k t.0 (omega (arith, lt, within))) lt) in
-    let first : position_or_len (λ (txn : Txn). bytes_eq txn.name.name name) txns ≡ i
-    = position_or_len_is (λ (txn : Txn). bytes_eq txn.name.name name) txns i t.0 (omega (arith, within)) before (λ _. here) in
+    let first : position_or_len (λ (txn : Adder). bytes_eq txn.name.name name) txns ≡ i
+    = position_or_len_is (λ (txn : Adder). bytes_eq txn.name.name name) txns i t.0 (omega (arith, within)) before (λ _. here) in
     let test : nat_lt i (length txns) ≡ true = (Decides-ltb i (length txns)).1 within in
     ap (λ n. cond (nat_lt n (length txns)) (Some n) None) first ∙ ap (λ b. cond b (Some i) None) test
   where
-    named_at : (k : ℕ) (d : Txn) → k < length txns → slice_get (names_of txns) k ≡ Some (get_or txns k d).name.name
+    named_at : (k : ℕ) (d : Adder) → k < length txns → slice_get (names_of txns) k ≡ Some (get_or txns k d).name.name
     named_at k d lt =
-        slice_get-map (λ (txn : Txn). txn.name.name) txns k ∙ ap (λ (found : Option Txn). option_map (λ (txn : Txn). txn.name.name) found) (slice_get-get_or txns k d lt)
+        slice_get-map (λ (txn : Adder). txn.name.name) txns k ∙ ap (λ (found : Option Adder). option_map (λ (txn : Adder). txn.name.name) found) (slice_get-get_or txns k d lt)
 
     not_named : (other : List ℕ) → other ≢ name → bytes_eq other name ≡ false
     not_named other ne = by_test (bytes_eq other name) refl ne

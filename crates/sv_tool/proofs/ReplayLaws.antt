@@ -7,7 +7,8 @@ use Rattle.sv_lex.specs.declared.tokens.Token.{Token}
 use Rattle.sv_lex.specs.declared.tokens.TokenKind.{TokenKind}
 use Rattle.sv_app.specs.declared.schemas.Table.{Table}
 use Rattle.sv_app.specs.declared.apps.Ident.{Ident}
-use Rattle.sv_app.specs.declared.apps.Txn.{Txn}
+use Rattle.sv_app.specs.declared.txns.Txn.{Txn}
+use Rattle.sv_tool.specs.declared.readers.Adder.{Adder}
 use Rattle.sv_app.specs.declared.refusals.Stop.{Stop}
 use Rattle.sv_app.specs.declared.refusals.Stop.TheVariants.{Refused, NoMemory}
 use Rattle.sv_app.specs.declared.requests.Arg.{Arg}
@@ -76,14 +77,17 @@ steps_fit : (form : Form) (tokens : List Token) (steps : List Step) → AreMany 
 steps_fit form tokens [] are = tt
 steps_fit form tokens (step ∷ steps) are = (step_fits form are.front step are.first, steps_fit form are.others steps are.then)
 
-name_numbers : (tables : List Table) → map (λ table. table.name.num) tables ≡ map (λ (name : Ident). name.num) (map (λ table. table.name) tables)
-name_numbers [] = refl
-name_numbers (table ∷ tables) = ap (λ (l : List ℕ). table.name.num ∷ l) (name_numbers tables)
+name_numbers : {A : Type 0} (name : A → Ident) (xs : List A) → map (λ x. (name x).num) xs ≡ map (λ (ident : Ident). ident.num) (map name xs)
+name_numbers name [] = refl
+name_numbers name (x ∷ xs) = ap (λ (l : List ℕ). (name x).num ∷ l) (name_numbers name xs)
+
+abbrev numbers : List Ident → List ℕ
+numbers names = map (λ (ident : Ident). ident.num) names
 
 app_numbered : (tokens : List Token) (parts : Parts) (rest : List Token) (replay : Replay) → ReadParts tokens parts rest → HasApp replay parts → IsNumbered replay
 app_numbered tokens parts rest replay r app = record {
-  tables = subst (CountFrom 0) (sym (name_numbers replay.doc.app.tables.items ∙ ap (λ (l : List Ident). map (λ (name : Ident). name.num) l) app.tables)) (r.table_numbered, tt);
-  txns = subst (λ (l : List Txn). CountFrom 0 (map (λ txn. txn.name.num) l)) (sym app.txns) r.txns_numbered;
+  tables = subst (CountFrom 0) (sym (name_numbers (λ (table : Table). table.name) replay.doc.app.tables.items ∙ ap numbers app.tables)) (r.table_numbered, tt);
+  txns = subst (CountFrom 0) (name_numbers (λ (adder : Adder). adder.name) parts.txns ∙ ap numbers (sym app.txns) ∙ sym (name_numbers (λ (txn : Txn). txn.name) replay.doc.app.txns.items)) r.txns_numbered;
 }
 
 pub parts_replay : (tokens : List Token) (parts : Parts) (rest : List Token) (replay : Replay) → parts_at tokens ≡ Some (parts, rest) → is_whole rest parts ≡ true → Describes replay (form_of_parts parts) → HasApp replay parts

@@ -8,7 +8,8 @@ use Rattle.std.specs.FinMap.{entries, entries_sorted, get, get-entries}
 use Rattle.std.specs.FinMap.Entries.{find, is_sorted, below_all, is_sorted-where_key, find-where_key}
 use Rattle.std.proofs.lemmas.Bool.Decides.{Decides-eqb}
 use Rattle.sv_app.specs.declared.places.Place.{Place}
-use Rattle.sv_app.specs.Tables.{place_cmp, Row, Tables}
+use Rattle.sv_app.specs.Tables.{place_cmp}
+use Rattle.sv_core.specs.Counters.{Row, Tables}
 use Rattle.sv_app.proofs.PlaceLaws.{place_total, exact_places}
 use Rattle.sv_tool.specs.ReplayText.{rows_of, AreRowsOf}
 

@@ -6,7 +6,7 @@ use Rattle.sv_lex.specs.declared.marks.Mark.TheVariants.{Semi}
 use Rattle.sv_lex.specs.declared.tokens.Token.{Token}
 use Rattle.sv_lex.specs.declared.tokens.TokenKind.{TokenKind}
 use Rattle.sv_lex.specs.declared.tokens.TokenKind.TheVariants.{Name, Number, Text, Mark}
-use Rattle.sv_app.specs.declared.apps.Txn.{Txn}
+use Rattle.sv_tool.specs.declared.readers.Adder.{Adder}
 use Rattle.sv_app.specs.declared.requests.Request.{Request}
 use Rattle.sv_tool.specs.declared.readers.Pair.{Pair}
 use Rattle.sv_tool.specs.declared.steps.Step.{Step}
@@ -19,22 +19,22 @@ use Rattle.sv_tool.proofs.PartLaws.{on_pair}
 use Rattle.sv_tool.proofs.PlaceLaws.{names_of, place_has, has_place}
 
 -- the name of a transaction that is read
-record ReadTxnName (txns : List Txn) (tokens : List Token) (i : ℕ) (rest : List Token) : Type 0 where
+record ReadTxnName (txns : List Adder) (tokens : List Token) (i : ℕ) (rest : List Token) : Type 0 where
   pub name : List ℕ
   pub took : Took tokens (Name name ∷ []) rest
   pub named : slice_get (names_of txns) i ≡ Some name
 
-txn_found : (txns : List Txn) (tokens rest : List Token) (kind : TokenKind) (i : ℕ) → txn_in txns kind ≡ Some i → Took tokens (kind ∷ []) rest → ReadTxnName txns tokens i rest
+txn_found : (txns : List Adder) (tokens rest : List Token) (kind : TokenKind) (i : ℕ) → txn_in txns kind ≡ Some i → Took tokens (kind ∷ []) rest → ReadTxnName txns tokens i rest
 txn_found txns tokens rest (Name name) i e took = record { name = name; took = took; named = place_has name txns i e }
 txn_found txns tokens rest (Number n) i e took = absurd cc
 txn_found txns tokens rest (Text text) i e took = absurd cc
 txn_found txns tokens rest (Mark mark) i e took = absurd cc
 
-named_read : (txns : List Txn) (tokens : List Token) (i : ℕ) (rest : List Token) → named_at txns tokens ≡ Some (i, rest) → ReadTxnName txns tokens i rest
+named_read : (txns : List Adder) (tokens : List Token) (i : ℕ) (rest : List Token) → named_at txns tokens ≡ Some (i, rest) → ReadTxnName txns tokens i rest
 named_read txns [] i rest e = absurd cc
 named_read txns (token ∷ others) i rest e = let f = found (txn_in txns) token others i rest e in txn_found txns (token ∷ others) rest f.kind i f.is f.took
 
-named_there : {B : Type 0} (txns : List Txn) (i : ℕ) (name : List ℕ) (ms : List TokenKind) (tokens last : List Token) (more : ℕ → List Token → Read B) (answer : Read B)
+named_there : {B : Type 0} (txns : List Adder) (i : ℕ) (name : List ℕ) (ms : List TokenKind) (tokens last : List Token) (more : ℕ → List Token → Read B) (answer : Read B)
     → AreDifferent (names_of txns) → slice_get (names_of txns) i ≡ Some name → kinds tokens ≡ Name name ∷ ms
     → ((back : List Token) → kinds back ≡ ms → more i (back ++ last) ≡ answer) → (named_at txns (tokens ++ last) >>= more) ≡ answer
 named_there txns i name ms [] last more answer d is e next = absurd cc
@@ -48,7 +48,7 @@ pub record ReadStep (table : List ℕ) (txns : List (List ℕ)) (sites : ℕ) (t
   pub whole : tokens ≡ front ++ rest
   pub is : IsStep table txns sites front step
 
-ask_read : (table : List ℕ) (txns : List Txn) (sites : ℕ) (tokens : List Token) (step : Step) (rest : List Token) → ask_at txns tokens ≡ Some (step, rest) → ReadStep table (names_of txns) sites tokens step rest
+ask_read : (table : List ℕ) (txns : List Adder) (sites : ℕ) (tokens : List Token) (step : Step) (rest : List Token) → ask_at txns tokens ≡ Some (step, rest) → ReadStep table (names_of txns) sites tokens step rest
 unfolding ask_at
 ask_read table txns sites tokens step rest e =
     on_after (word (codes "ask") ∷ []) _ step rest tokens e λ r1 t1 e1.
@@ -105,7 +105,7 @@ show_read table txns sites tokens step rest e =
       is = subst (λ (s : Step). IsStep table txns sites took.front s) same.item is;
     }
 
-pub step_read : (table : List ℕ) (txns : List Txn) (sites : ℕ) (tokens : List Token) (step : Step) (rest : List Token) → step_at table txns sites tokens ≡ Some (step, rest)
+pub step_read : (table : List ℕ) (txns : List Adder) (sites : ℕ) (tokens : List Token) (step : Step) (rest : List Token) → step_at table txns sites tokens ≡ Some (step, rest)
     → ReadStep table (names_of txns) sites tokens step rest
 unfolding step_at
 step_read table txns sites tokens step rest e = by_test (is_next (word (codes "ask")) tokens) (is_next (word (codes "deliver")) tokens) e
@@ -121,7 +121,7 @@ next_is : (wanted kind : TokenKind) (ms : List TokenKind) (tokens last : List To
 next_is wanted kind ms [] last e = absurd cc
 next_is wanted kind ms (token ∷ tokens) last e = let same : token.kind ≡ kind = cc in ap (λ k. is_kind wanted k) same
 
-ask_there : (txns : List Txn) (tokens last : List Token) (session : ℕ) (request : Request) → AreDifferent (names_of txns) → IsAsk (names_of txns) tokens session request
+ask_there : (txns : List Adder) (tokens last : List Token) (session : ℕ) (request : Request) → AreDifferent (names_of txns) → IsAsk (names_of txns) tokens session request
     → ask_at txns (tokens ++ last) ≡ Some (Ask session request, last)
 unfolding ask_at
 ask_there txns tokens last session request d a =
@@ -154,7 +154,7 @@ show_there sites table tokens last site number s =
     ap (λ (rest : List Token). Some (Show site 0, rest)) (none_there b3 last k3) ∙ ap (λ n. Some (Show site n, last)) (sym s.numbered)
 
 -- a step that stands first is read
-pub step_there : (table : List ℕ) (txns : List Txn) (sites : ℕ) (tokens last : List Token) (step : Step) → AreDifferent (names_of txns) → IsStep table (names_of txns) sites tokens step
+pub step_there : (table : List ℕ) (txns : List Adder) (sites : ℕ) (tokens last : List Token) (step : Step) → AreDifferent (names_of txns) → IsStep table (names_of txns) sites tokens step
     → step_at table txns sites (tokens ++ last) ≡ Some (step, last)
 unfolding step_at
 step_there table txns sites tokens last (Ask session request) d s =

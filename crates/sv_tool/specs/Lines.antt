@@ -10,7 +10,7 @@ use Rattle.sv_value.specs.declared.values.Key.{Key}
 use Rattle.sv_app.specs.declared.places.Place.{Place}
 use Rattle.sv_app.specs.declared.refusals.Refusal.{Refusal}
 use Rattle.sv_app.specs.Codes.{number_of}
-use Rattle.sv_app.specs.Tables.{Row}
+use Rattle.sv_core.specs.Counters.{Row}
 use Rattle.sv_core.specs.declared.entries.Outcome.TheVariants.{Done, NoRow, Range}
 use Rattle.sv_core.specs.declared.entries.Reply.{Reply}
 use Rattle.sv_core.specs.declared.entries.Reply.TheVariants.{Ran}

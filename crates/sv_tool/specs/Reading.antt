@@ -12,7 +12,7 @@ use Rattle.sv_lex.specs.declared.tokens.TokenKind.{TokenKind}
 use Rattle.sv_lex.specs.declared.tokens.TokenKind.TheVariants.{Name, Number, Text, Mark}
 use Rattle.sv_lex.specs.Marks.{mark_bytes}
 use Rattle.sv_app.specs.declared.apps.Ident.{Ident}
-use Rattle.sv_app.specs.declared.apps.Txn.{Txn}
+use Rattle.sv_tool.specs.declared.readers.Adder.{Adder}
 use Rattle.sv_app.specs.declared.refusals.Code.TheVariants.{Syntax}
 use Rattle.sv_app.specs.declared.refusals.Refusal.{Refusal}
 use Rattle.sv_app.specs.Words.{is_reserved}
@@ -148,7 +148,7 @@ table_at tokens =
     after (word (codes "int") ∷ Mark At ∷ word (codes "NUMDELTA") ∷ Mark Comma ∷ word (codes "primary") ∷ word (codes "key") ∷ Mark LeftParen ∷ Name key ∷ Mark RightParen ∷ Mark RightParen ∷ Mark Semi ∷ []) r6 λ r7.
     if bytes_eq key counter then None else Some (record { table = table; counter = counter }, r7)
 
-unfoldable pub txn_at : Schema → ℕ → List Token → Read Txn
+unfoldable pub txn_at : Schema → ℕ → List Token → Read Adder
 txn_at schema num tokens =
     after (word (codes "txn") ∷ []) tokens λ r1. ident_at num r1 >>= λ name r2. after (Mark LeftParen ∷ []) r2 λ r3. name_at r3 >>= λ first r4.
     after (Mark Colon ∷ word (codes "int") ∷ Mark Comma ∷ []) r4 λ r5. name_at r5 >>= λ second r6.
@@ -163,20 +163,20 @@ unfoldable pub row_at : List ℕ → List Token → Read InitRow
 row_at table tokens = after (Name table ∷ []) tokens λ r1. pair_at r1 >>= λ pair r2. Some (row_of (spot_of tokens) pair, r2)
 
 -- the number of the transaction of this name
-abbrev pub txn_in : List Txn → TokenKind → Option ℕ
+abbrev pub txn_in : List Adder → TokenKind → Option ℕ
 txn_in txns (Name name) = position (λ txn. bytes_eq txn.name.name name) txns
 txn_in txns (Number n) = None
 txn_in txns (Text text) = None
 txn_in txns (Mark mark) = None
 
-abbrev pub named_at : List Txn → List Token → Read ℕ
+abbrev pub named_at : List Adder → List Token → Read ℕ
 named_at txns [] = None
 named_at txns (token ∷ rest) = with_rest rest (txn_in txns token.kind)
 
 abbrev pub request_of : ℕ → Pair → Request
 request_of txn pair = record { txn = txn; args = IntArg pair.first ∷ IntArg pair.second ∷ [] }
 
-unfoldable pub ask_at : List Txn → List Token → Read Step
+unfoldable pub ask_at : List Adder → List Token → Read Step
 ask_at txns tokens =
     after (word (codes "ask") ∷ []) tokens λ r1. number_at 1 64 r1 >>= λ session r2. named_at txns r2 >>= λ txn r3. pair_at r3 >>= λ pair r4.
     Some (Ask session (request_of txn pair), r4)
@@ -190,7 +190,7 @@ unfoldable pub show_at : ℕ → List ℕ → List Token → Read Step
 show_at sites table tokens =
     after (word (codes "show") ∷ []) tokens λ r1. number_at 1 sites r1 >>= λ site r2. after (Name table ∷ Mark Semi ∷ []) r2 λ r3. Some (Show site 0, r3)
 
-unfoldable pub step_at : List ℕ → List Txn → ℕ → List Token → Read Step
+unfoldable pub step_at : List ℕ → List Adder → ℕ → List Token → Read Step
 step_at table txns sites tokens =
     if is_next (word (codes "ask")) tokens then ask_at txns tokens
     else if is_next (word (codes "deliver")) tokens then deliver_at sites tokens
@@ -208,19 +208,19 @@ many read first (suc more) tokens =
     if ends tokens then Some ([], tokens)
     else (read first tokens >>= λ item rest. many read (suc first) more rest >>= λ items last. Some (item ∷ items, last))
 
-abbrev pub txns_at : Schema → List Token → Read (List Txn)
+abbrev pub txns_at : Schema → List Token → Read (List Adder)
 txns_at schema tokens = many (txn_at schema) 0 32 tokens
 
 abbrev pub rows_at : List ℕ → List Token → Read (List InitRow)
 rows_at table tokens = many (λ _. row_at table) 0 1024 tokens
 
-abbrev pub steps_at : List ℕ → List Txn → ℕ → List Token → Read (List Step)
+abbrev pub steps_at : List ℕ → List Adder → ℕ → List Token → Read (List Step)
 steps_at table txns sites tokens = many (λ _. step_at table txns sites) 0 65536 tokens
 
-abbrev pub has_name : List ℕ → List Txn → Bool
+abbrev pub has_name : List ℕ → List Adder → Bool
 has_name name txns = list_any (λ txn. bytes_eq txn.name.name name) txns
 
-abbrev pub names_differ : List Txn → Bool
+abbrev pub names_differ : List Adder → Bool
 names_differ [] = true
 names_differ (txn ∷ txns) = not (has_name txn.name.name txns) && names_differ txns
 
@@ -264,7 +264,7 @@ form_of_parts parts = record {
 -- a replay's table and transactions are those of these parts
 pub record HasApp (replay : Replay) (parts : Parts) : Type 0 where
   pub tables : map (λ table. table.name) replay.doc.app.tables.items ≡ parts.table ∷ []
-  pub txns : replay.doc.app.txns.items ≡ parts.txns
+  pub txns : map (λ txn. txn.name) replay.doc.app.txns.items ≡ map (λ adder. adder.name) parts.txns
 
 abbrev pub whole_form : Read Parts → Option Form
 whole_form None = None

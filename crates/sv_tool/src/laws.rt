@@ -1,5 +1,5 @@
 ghost use Rattle.std.specs.Prelude.{ℕ};
-ghost use Rattle.sv_app.specs.Tables.{Tables};
+ghost use Rattle.sv_core.specs.Counters.{Tables};
 ghost use Rattle.sv_tool.specs.ReplayText.{rows_of, AreRowsOf};
 
 /// A law: the rows that a `show` prints of a table rise by key, and are exactly those that are kept there.

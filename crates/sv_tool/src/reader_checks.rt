@@ -3,18 +3,19 @@ ghost use Rattle.sv_tool.specs.Form.{asks_in, shows_in};
 ghost use Rattle.sv_tool.specs.Reading.{has_name, names_differ, is_same_place, has_place, places_differ};
 ghost use Rattle.sv_core.specs.TablesOfCut.{init_place};
 
+use crate::readers::Adder;
 use crate::steps::Step;
-use sv_app::{InitRow, Place, Txn};
+use sv_app::{InitRow, Place};
 use sv_value::{Name, Packet};
 
-fn has_name(name: &Name, txns: &[Txn]) -> bool
+fn has_name(name: &Name, txns: &[Adder]) -> bool
     ensures { result ≡ has_name name.now txns.now }
 {
     txns.iter().any(|txn| txn.name.name.bytes() == name.bytes())
 }
 
 /// Whether no two transactions have the same name.
-pub fn names_differ(txns: &[Txn]) -> bool
+pub fn names_differ(txns: &[Adder]) -> bool
     ensures { result ≡ names_differ txns.now }
 {
     let mut rest = txns;

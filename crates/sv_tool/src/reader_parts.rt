@@ -1,9 +1,9 @@
 ghost use Rattle.std.specs.Prelude.{◌≡◌, IfOk};
 ghost use Rattle.sv_tool.specs.Reading.{row_of};
 
-use crate::readers::{Pair, Reader, Schema, refused};
+use crate::readers::{Adder, Pair, Reader, Schema, refused};
 use std::alloc::Global;
-use sv_app::{InitRow, Stop, Txn};
+use sv_app::{InitRow, Stop};
 use sv_lex::Mark;
 use sv_value::{Key, List, Name, NoMemory, Spot, Val};
 
@@ -68,7 +68,7 @@ impl Reader<'_> {
 
     /// Reads a transaction over the table, which is the one of this number.
     #[tactic(auto, unfolding(crate::specs::Reading::txn_at, crate::specs::Reading::after))]
-    pub fn txn(&mut self, schema: &Schema, num: u16) -> Result<Txn, Stop>
+    pub fn txn(&mut self, schema: &Schema, num: u16) -> Result<Adder, Stop>
         ensures { Reads result self.new.rest.now (txn_at schema.now num self.old.rest.now) }
     {
         self.word(b"txn")?;
@@ -101,7 +101,7 @@ impl Reader<'_> {
         if first == second {
             return Err(refused());
         }
-        Ok(Txn { name })
+        Ok(Adder { name })
     }
 
     /// Reads an initial row of the table.
@@ -117,7 +117,7 @@ impl Reader<'_> {
 
     /// Reads the transactions.
     #[tactic(auto, using(crate::proofs::ManyLaws::reading))]
-    pub fn txns(&mut self, alloc: Global, schema: &Schema) -> Result<List<Txn>, Stop>
+    pub fn txns(&mut self, alloc: Global, schema: &Schema) -> Result<List<Adder>, Stop>
         ensures { Reads result self.new.rest.now (txns_at schema.now self.old.rest.now) }
     {
         let mut txns = List::new(alloc);

@@ -1,13 +1,13 @@
-ghost use Rattle.std.specs.Prelude.{◌≡◌, ◌≤◌, IfOk};
+ghost use Rattle.std.specs.Prelude.{map, ◌≡◌, ◌≤◌, IfOk};
 ghost use Rattle.sv_tool.specs.Form.{Describes, asks_in};
 ghost use Rattle.sv_tool.specs.Reading.{is_whole, form_of_parts, HasApp};
 ghost use Rattle.sv_tool.specs.Replays.{Answers};
 
 use crate::reader_checks::{asks_in, names_differ, places_differ, shows_in};
-use crate::readers::{Parts, Reader, refused};
+use crate::readers::{Adder, Parts, Reader, refused};
 use crate::steps::Replay;
 use std::alloc::Global;
-use sv_app::{App, Ident, Kind, Stop, Table};
+use sv_app::{App, Ident, Kind, Stop, Table, Txn};
 use sv_core::Doc;
 use sv_lex::{Mark, Token};
 use sv_value::{NoMemory, Packet};
@@ -74,6 +74,22 @@ fn counter_table(alloc: Global, name: Ident) -> Table
     }
 }
 
+/// The transactions of these names. Their statements aren't listed, since the form says what they do.
+fn txns_of(alloc: Global, adders: &[Adder]) -> Result<Vec<Txn>, NoMemory>
+    ensures idents { IfOk result (λ txns. map (λ txn. txn.name) txns.items ≡ map (λ adder. adder.name) adders.now) }
+    ensures names { IfOk result (λ txns. map (λ txn. txn.name.name) txns.items ≡ map (λ adder. adder.name.name) adders.now) }
+{
+    let mut txns = Vec::new(alloc);
+    for adder in adders {
+        txns.push(Txn {
+            name: adder.name,
+            params: Vec::new(alloc),
+            body: Vec::new(alloc),
+        })?;
+    }
+    Ok(txns)
+}
+
 /// What these parts ask for.
 fn replay_of(alloc: Global, parts: Parts) -> Result<Replay, NoMemory>
     requires { asks_in parts.steps ≤ 8192 }
@@ -84,12 +100,10 @@ fn replay_of(alloc: Global, parts: Parts) -> Result<Replay, NoMemory>
     let asks = asks_in(parts.steps.items()) as u32;
     let mut tables = Vec::new(alloc);
     tables.push(counter_table(alloc, parts.table))?;
+    let txns = txns_of(alloc, parts.txns.items())?;
     Ok(Replay {
         doc: Doc {
-            app: App {
-                tables,
-                txns: parts.txns.into_vec(),
-            },
+            app: App { tables, txns },
             init: parts.init,
             sites: parts.sites,
             asks,

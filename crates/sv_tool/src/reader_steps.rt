@@ -1,10 +1,10 @@
 ghost use Rattle.std.specs.Prelude.{◌≡◌, ◌≤◌, [], ◌∷◌, ◌++◌, length, position, bytes_eq, IfOk, OnOk};
 ghost use Rattle.sv_tool.specs.Reading.{request_of};
 
-use crate::readers::{Pair, Reader, refused};
+use crate::readers::{Adder, Pair, Reader, refused};
 use crate::steps::Step;
 use std::alloc::Global;
-use sv_app::{Arg, Request, Stop, Txn};
+use sv_app::{Arg, Request, Stop};
 use sv_lex::{Mark, TokenKind};
 use sv_value::{List, Name, NoMemory, Packet, Site};
 
@@ -22,7 +22,7 @@ fn request_of(alloc: Global, txn: u16, pair: &Pair) -> Result<Request, NoMemory>
 }
 
 /// The place of the transaction of this name.
-fn place_of(name: &Name, txns: &[Txn]) -> Option<usize>
+fn place_of(name: &Name, txns: &[Adder]) -> Option<usize>
     ensures { result ≡ position (λ txn. bytes_eq txn.name.name name.now) txns.now }
 {
     txns.iter()
@@ -45,7 +45,7 @@ impl Reader<'_> {
     }
 
     /// Reads the name of a transaction: its number.
-    fn named(&mut self, txns: &[Txn]) -> Result<u16, Stop>
+    fn named(&mut self, txns: &[Adder]) -> Result<u16, Stop>
         requires { length txns.now ≤ 32 }
         ensures { Reads result self.new.rest.now (named_at txns.now self.old.rest.now) }
     {
@@ -61,7 +61,7 @@ impl Reader<'_> {
     }
 
     #[tactic(auto, unfolding(crate::specs::Reading::ask_at, crate::specs::Reading::after))]
-    fn ask(&mut self, alloc: Global, txns: &[Txn]) -> Result<Step, Stop>
+    fn ask(&mut self, alloc: Global, txns: &[Adder]) -> Result<Step, Stop>
         requires { length txns.now ≤ 32 }
         ensures { Reads result self.new.rest.now (ask_at txns.now self.old.rest.now) }
     {
@@ -109,7 +109,7 @@ impl Reader<'_> {
 
     /// Reads a step.
     #[tactic(auto, unfolding(crate::specs::Reading::step_at))]
-    fn step(&mut self, alloc: Global, table: &Name, txns: &[Txn], sites: u8) -> Result<Step, Stop>
+    fn step(&mut self, alloc: Global, table: &Name, txns: &[Adder], sites: u8) -> Result<Step, Stop>
         requires txns { length txns.now ≤ 32 }
         requires sites { sites ≤ 8 }
         ensures { Reads result self.new.rest.now (step_at table.now txns.now sites self.old.rest.now) }
@@ -130,7 +130,7 @@ impl Reader<'_> {
         &mut self,
         alloc: Global,
         table: &Name,
-        txns: &[Txn],
+        txns: &[Adder],
         sites: u8,
     ) -> Result<List<Step>, Stop>
         requires txns { length txns.now ≤ 32 }

@@ -3,7 +3,7 @@ ghost use Rattle.sv_app.specs.declared.refusals.Stop.TheVariants.{Refused};
 ghost use Rattle.sv_tool.specs.Reading.{at_start, is_mark, Gives, nat_within, fitting};
 
 use crate::steps::Step;
-use sv_app::{Code, Ident, InitRow, Refusal, Stop, Txn, is_reserved};
+use sv_app::{Code, Ident, InitRow, Refusal, Stop, is_reserved};
 use sv_lex::{Mark, Token, TokenKind};
 use sv_value::{List, Name, Spot};
 
@@ -14,11 +14,17 @@ pub struct Schema {
     pub counter: Name,
 }
 
+/// A transaction of the first form: it adds to a counter.
+#[derive(Clone, Copy, Debug)]
+pub struct Adder {
+    pub name: Ident,
+}
+
 /// What a document holds, in order.
 #[derive(Debug, Drop)]
 pub struct Parts {
     pub table: Ident,
-    pub txns: List<Txn>,
+    pub txns: List<Adder>,
     pub init: List<InitRow>,
     pub sites: u8,
     pub steps: List<Step>,

@@ -9,7 +9,8 @@ use Rattle.sv_app.specs.Acceptance.{IsAccepted, IsRefused, ByCycle}
 use Rattle.sv_app.specs.Conditions.{IsSmallTable}
 use Rattle.sv_app.specs.References.{IsOnCycle, IsCyclic}
 use Rattle.sv_app.specs.Schema.{Declaration, declaration_of, schema_of}
-use Rattle.sv_app.specs.Typing.{faults}
+use Rattle.sv_app.specs.Trees.{Transaction}
+use Rattle.sv_app.specs.TxnTyping.{all_faults}
 
 rest_small : (t : Declaration) (ts : List Declaration) → All IsSmallTable (t ∷ ts) → All IsSmallTable ts
 rest_small t ts each k d h = each (suc k) d (omega (arith, h))
@@ -27,7 +28,8 @@ table_small (x ∷ xs) zero t h e each = rw e (each 0 (declaration_of x) (omega 
 table_small (x ∷ xs) (suc k) t h e each = table_small xs k t (omega (arith, h)) e (rest_small (declaration_of x) (schema_of xs) each)
 
 -- where the names and types are right, the references decide
-pub cycles_decide : (schema : List Declaration) (o : Option Refusal) → faults schema ≡ []
-    → MatchOption o ((table : ℕ) → IsOnCycle schema table → ⊥) (λ refusal. IsCyclic schema refusal) → MatchOption o (IsAccepted schema) (λ refusal. IsRefused schema refusal)
-cycles_decide schema None typed free = record { typed = typed; acyclic = free }
-cycles_decide schema (Some refusal) typed cyclic = ByCycle typed cyclic
+pub cycles_decide : (schema : List Declaration) (txns : List Transaction) (o : Option Refusal) → all_faults schema txns ≡ []
+    → MatchOption o ((table : ℕ) → IsOnCycle schema table → ⊥) (λ refusal. IsCyclic schema refusal)
+    → MatchOption o (IsAccepted schema txns) (λ refusal. IsRefused schema txns refusal)
+cycles_decide schema txns None typed free = record { typed = typed; acyclic = free }
+cycles_decide schema txns (Some refusal) typed cyclic = ByCycle typed cyclic

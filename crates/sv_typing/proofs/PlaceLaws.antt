@@ -19,13 +19,15 @@ use Rattle.std.proofs.lemmas.Bool.Decides.{nat_tests}
 use Rattle.sv_app.specs.Lookups.{is_named, place_of, table_names, column_names}
 use Rattle.sv_app.specs.Numbers.{numbered, numbered_in, numbered_table, numbered_column}
 use Rattle.sv_app.specs.Schema.{Declaration}
+use Rattle.sv_app.specs.Trees.{Transaction}
+use Rattle.sv_app.specs.TxnTyping.{all_faults, txn_faults, txns_faults}
 use Rattle.sv_app.specs.Typing.{fault_if, repeats, faults, table_faults, key_faults, column_faults, rule_faults}
 
-left_none : {A : Type 0} (a b : List A) → a ++ b ≡ [] → a ≡ []
+pub left_none : {A : Type 0} (a b : List A) → a ++ b ≡ [] → a ≡ []
 left_none [] b e = refl
 left_none (x ∷ a) b e = absurd cc
 
-right_none : {A : Type 0} (a b : List A) → a ++ b ≡ [] → b ≡ []
+pub right_none : {A : Type 0} (a b : List A) → a ++ b ≡ [] → b ≡ []
 right_none [] b e = e
 right_none (x ∷ a) b e = absurd cc
 
@@ -63,10 +65,17 @@ map_at f xs k x s = slice_get-map f xs k ∙ ap (λ o. option_map f o) s
 own_number : (names : List Ident) (k : ℕ) (x : Ident) → repeats names ≡ [] → slice_get names k ≡ Some x → (numbered_in names x).num ≡ k
 own_number names k x e s = ap (λ o. unwrap_or o 0) (place_own names k x e s)
 
-pub tables_by_place : (schema : List Declaration) (place : ℕ) (t : Declaration) → IsAccepted schema → slice_get (numbered schema) place ≡ Some t → t.name.num ≡ place
-tables_by_place schema place t accepted s =
+-- nothing is wrong in the schema where nothing is wrong at all
+schema_right : (schema : List Declaration) (txns : List Transaction) → all_faults schema txns ≡ [] → faults schema ≡ []
+schema_right schema txns e = left_none (faults schema) (txns_faults schema txns) e
+
+txns_right : (schema : List Declaration) (txns : List Transaction) → all_faults schema txns ≡ [] → txns_faults schema txns ≡ []
+txns_right schema txns e = right_none (faults schema) (txns_faults schema txns) e
+
+pub tables_by_place : (schema : List Declaration) (txns : List Transaction) (place : ℕ) (t : Declaration) → IsAccepted schema txns → slice_get (numbered schema) place ≡ Some t → t.name.num ≡ place
+tables_by_place schema txns place t accepted s =
     let found : (u : Declaration) × (slice_get schema place ≡ Some u) × (numbered_table schema u ≡ t) = mapped_at (numbered_table schema) schema place t s in
-    let once : repeats (table_names schema) ≡ [] = left_none (repeats (table_names schema)) (flat_map (λ u. table_faults schema u) schema) accepted.typed in
+    let once : repeats (table_names schema) ≡ [] = left_none (repeats (table_names schema)) (flat_map (λ u. table_faults schema u) schema) (schema_right schema txns accepted.typed) in
     ap (λ (u : Declaration). u.name.num) (sym found.2) ∙ own_number (table_names schema) place found.0.name once (map_at (λ (u : Declaration). u.name) schema place found.0 found.1)
 
 columns_once : (schema : List Declaration) (table : ℕ) (u : Declaration) → faults schema ≡ [] → slice_get schema table ≡ Some u → repeats (column_names u) ≡ []
@@ -78,22 +87,22 @@ columns_once schema table u typed s =
     let columns : column_faults u ≡ [] = right_none (key_faults u) (column_faults u) front in
     left_none (repeats (column_names u)) _ columns
 
-pub columns_by_place : (schema : List Declaration) (table place : ℕ) (t : Declaration) (c : Column) → IsAccepted schema
+pub columns_by_place : (schema : List Declaration) (txns : List Transaction) (table place : ℕ) (t : Declaration) (c : Column) → IsAccepted schema txns
     → slice_get (numbered schema) table ≡ Some t → slice_get t.columns place ≡ Some c → c.name.num ≡ place
-columns_by_place schema table place t c accepted s at_place =
+columns_by_place schema txns table place t c accepted s at_place =
     let found : (u : Declaration) × (slice_get schema table ≡ Some u) × (numbered_table schema u ≡ t) = mapped_at (numbered_table schema) schema table t s in
     let stands : slice_get (map (numbered_column found.0) found.0.columns) place ≡ Some c = ap (λ (u : Declaration). slice_get u.columns place) found.2 ∙ at_place in
     let column : (d : Column) × (slice_get found.0.columns place ≡ Some d) × (numbered_column found.0 d ≡ c) = mapped_at (numbered_column found.0) found.0.columns place c stands in
-    let once : repeats (column_names found.0) ≡ [] = columns_once schema table found.0 accepted.typed found.1 in
+    let once : repeats (column_names found.0) ≡ [] = columns_once schema table found.0 (schema_right schema txns accepted.typed) found.1 in
     ap (λ (d : Column). d.name.num) (sym column.2) ∙ own_number (column_names found.0) place column.0.name once (map_at (λ (d : Column). d.name) found.0.columns place column.0 column.1)
 
 none_first : (candidates : List Refusal) (refusal : Refusal) → candidates ≡ [] → IsFirst candidates refusal → ⊥
 none_first [] refusal e first = omega (arith, first.is.1)
 none_first (x ∷ xs) refusal e first = cc
 
-pub never_both : (schema : List Declaration) (refusal : Refusal) → IsAccepted schema → IsRefused schema refusal → ⊥
-never_both schema refusal accepted (ByTyping first) = none_first (faults schema) refusal accepted.typed first
-never_both schema refusal accepted (ByCycle typed cycle) = accepted.acyclic cycle.number cycle.cyclic
+pub never_both : (schema : List Declaration) (txns : List Transaction) (refusal : Refusal) → IsAccepted schema txns → IsRefused schema txns refusal → ⊥
+never_both schema txns refusal accepted (ByTyping first) = none_first (all_faults schema txns) refusal accepted.typed first
+never_both schema txns refusal accepted (ByCycle typed cycle) = accepted.acyclic cycle.number cycle.cyclic
 
 cyclic_once : (schema : List Declaration) (a b : Refusal) (p : IsCyclic schema a) (q : IsCyclic schema b) → p.number ≡ q.number → a ≡ b
 cyclic_once schema a b p q same =
@@ -111,11 +120,11 @@ same_number m n p q = same_by (nat_lt m n) (nat_lt n m) refl refl where
 cycle_is_one : (schema : List Declaration) (a b : Refusal) → IsCyclic schema a → IsCyclic schema b → a ≡ b
 cycle_is_one schema a b p q = cyclic_once schema a b p q (same_number p.number q.number (λ less. q.first p.number less p.cyclic) (λ less. p.first q.number less q.cyclic))
 
-pub refused_once : (schema : List Declaration) (a b : Refusal) → IsRefused schema a → IsRefused schema b
+pub refused_once : (schema : List Declaration) (txns : List Transaction) (a b : Refusal) → IsRefused schema txns a → IsRefused schema txns b
     → (a.spot.line ≡ b.spot.line) × (a.spot.col ≡ b.spot.col) × (number_of a.code ≡ number_of b.code)
-refused_once schema a b (ByTyping f) (ByTyping g) = first_is_one (faults schema) a b f g
-refused_once schema a b (ByTyping f) (ByCycle typed q) = absurd (none_first (faults schema) a typed f)
-refused_once schema a b (ByCycle typed p) (ByTyping g) = absurd (none_first (faults schema) b typed g)
-refused_once schema a b (ByCycle typed p) (ByCycle more q) =
+refused_once schema txns a b (ByTyping f) (ByTyping g) = first_is_one (all_faults schema txns) a b f g
+refused_once schema txns a b (ByTyping f) (ByCycle typed q) = absurd (none_first (all_faults schema txns) a typed f)
+refused_once schema txns a b (ByCycle typed p) (ByTyping g) = absurd (none_first (all_faults schema txns) b typed g)
+refused_once schema txns a b (ByCycle typed p) (ByCycle more q) =
     let same : a ≡ b = cycle_is_one schema a b p q in
     (ap (λ (r : Refusal). r.spot.line) same, ap (λ (r : Refusal). r.spot.col) same, ap (λ (r : Refusal). number_of r.code) same)

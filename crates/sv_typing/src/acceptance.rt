@@ -5,39 +5,54 @@ ghost use Rattle.sv_app.specs.Acceptance.{IsAccepted, IsRefused};
 ghost use Rattle.sv_app.specs.Conditions.{KeepsLimits};
 ghost use Rattle.sv_app.specs.Numbers.{numbered};
 ghost use Rattle.sv_app.specs.Schema.{schema_of};
+ghost use Rattle.sv_app.specs.Trees.{transactions_of};
+ghost use Rattle.sv_app.specs.TxnConditions.{KeepsTxnLimits};
+ghost use Rattle.sv_app.specs.TxnNumbers.{numbered_txns};
 
 use crate::cycles::first_cycle;
 use crate::faults::first_fault;
 use crate::numbers::number_all;
+use crate::fills::number_txns;
 use std::alloc::Global;
 use sv_app::{App, Refusal, Stop, Table, Txn};
+use sv_value::NoMemory;
 
-/// The refusal that the tables get, if they aren't accepted.
-fn first_refusal(tables: &[Table]) -> Option<Refusal>
+/// The refusal that the tables and transactions get, if they aren't accepted.
+fn first_refusal(
+    alloc: Global,
+    tables: &[Table],
+    txns: &[Txn],
+) -> Result<Option<Refusal>, NoMemory>
     requires { KeepsLimits (schema_of tables.now) }
-    ensures { MatchOption result (IsAccepted (schema_of tables.now)) (λ refusal. IsRefused (schema_of tables.now) refusal) }
+    ensures { IfOk result (λ found. MatchOption found (IsAccepted (schema_of tables.now) (transactions_of txns.now)) (λ refusal. IsRefused (schema_of tables.now) (transactions_of txns.now) refusal)) }
 {
-    let fault = first_fault(tables);
+    let fault = first_fault(alloc, tables, txns)?;
     match fault {
-        Some(refusal) => Some(refusal),
-        None => first_cycle(tables),
+        Some(refusal) => Ok(Some(refusal)),
+        None => Ok(first_cycle(tables)),
     }
 }
 
 /// The application of these tables and transactions, with the numbers of all names filled in.
 ///
-/// Tables whose names and types are wrong, or whose references form a cycle, are refused with the first refusal.
+/// Where names or types are wrong the first refusal is answered, and where they are right and references form a cycle that
+/// of the first table on one.
 pub fn accept(alloc: Global, tables: Vec<Table>, txns: Vec<Txn>) -> Result<App, Stop>
     requires limits { KeepsLimits (schema_of tables.items) }
-    ensures accepted { IfOk result (λ app. IsAccepted (schema_of tables.items)) }
+    requires small { KeepsTxnLimits (transactions_of txns.items) }
+    ensures accepted { IfOk result (λ app. IsAccepted (schema_of tables.items) (transactions_of txns.items)) }
     ensures tables { IfOk result (λ app. schema_of app.tables.items ≡ numbered (schema_of tables.items)) }
-    ensures txns { IfOk result (λ app. app.txns.items ≡ txns.items) }
-    ensures refused { (refusal : RefusalValue) → result ≡ Err (Refused refusal) → IsRefused (schema_of tables.items) refusal }
+    ensures txns { IfOk result (λ app. transactions_of app.txns.items ≡ numbered_txns (schema_of tables.items) (transactions_of txns.items)) }
+    ensures refused { (refusal : RefusalValue) → result ≡ Err (Refused refusal) → IsRefused (schema_of tables.items) (transactions_of txns.items) refusal }
 {
-    let refusal = first_refusal(&tables);
+    let refusal = first_refusal(alloc, &tables, &txns)?;
     if let Some(refusal) = refusal {
         return Err(Stop::Refused(refusal));
     }
-    let tables = number_all(alloc, &tables)?;
-    Ok(App { tables, txns })
+    let numbered_tables = number_all(alloc, &tables)?;
+    let numbered_txns = number_txns(alloc, &tables, &txns)?;
+    Ok(App {
+        tables: numbered_tables,
+        txns: numbered_txns,
+    })
 }

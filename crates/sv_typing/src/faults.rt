@@ -1,7 +1,9 @@
-ghost use Rattle.std.specs.Prelude.{◌≡◌};
+ghost use Rattle.std.specs.Prelude.{◌≡◌, IfOk};
 ghost use Rattle.std.specs.List.{flat_map};
 ghost use Rattle.sv_app.specs.Schema.{declaration_of, schema_of, rule_of, invariant_of};
-ghost use Rattle.sv_app.specs.Typing.{rule_faults, table_faults, faults};
+ghost use Rattle.sv_app.specs.Typing.{rule_faults, table_faults};
+ghost use Rattle.sv_app.specs.Trees.{transactions_of};
+ghost use Rattle.sv_app.specs.TxnTyping.{all_faults};
 ghost use Rattle.sv_typing.specs.Noted.{noted};
 ghost use Rattle.std.specs.Prelude.{None as none};
 
@@ -10,7 +12,10 @@ use crate::firsts::First;
 use crate::invariants::{note_check, note_list, note_unique};
 use crate::named::note_repeats;
 use crate::references::note_reference;
-use sv_app::{InvBody, Refusal, Table};
+use crate::txns::note_txns;
+use std::alloc::Global;
+use sv_app::{InvBody, Refusal, Table, Txn};
+use sv_value::NoMemory;
 
 fn note_rule(first: &mut First, tables: &[Table], table: &Table, body: &InvBody)
     ensures { first.new.held ≡ noted first.old.held (rule_faults (schema_of tables.now) (declaration_of table.now) (rule_of body.now)) }
@@ -52,12 +57,13 @@ fn note_tables(first: &mut First, tables: &[Table])
     }
 }
 
-/// What is wrong first with the names and types of the tables.
-pub fn first_fault(tables: &[Table]) -> Option<Refusal>
-    ensures { result ≡ noted none (faults (schema_of tables.now)) }
+/// What is wrong first with the names and types of the tables and transactions.
+pub fn first_fault(alloc: Global, tables: &[Table], txns: &[Txn]) -> Result<Option<Refusal>, NoMemory>
+    ensures { IfOk result (λ found. found ≡ noted none (all_faults (schema_of tables.now) (transactions_of txns.now))) }
 {
     let mut first = First::none();
     note_repeats(&mut first, tables);
     note_tables(&mut first, tables);
-    first.held
+    note_txns(alloc, &mut first, tables, txns)?;
+    Ok(first.held)
 }

@@ -1,6 +1,6 @@
 //! What the definitions promise, as calls that do nothing: their contracts are the laws.
 
-ghost use Rattle.sv_typing.specs.Laws.{TablesByPlace, ColumnsByPlace, NeverBoth, RefusedOnce};
+ghost use Rattle.sv_typing.specs.Laws.{TablesByPlace, ColumnsByPlace, TxnsByPlace, NamesByPlace, NeverBoth, RefusedOnce};
 
 /// In an accepted schema the number of a table is its place.
 #[tactic(auto, using(crate::proofs::PlaceLaws::tables_by_place))]

@@ -5,6 +5,7 @@ mod acceptance;
 mod columns;
 mod cycles;
 mod faults;
+mod fills;
 mod firsts;
 mod invariants;
 mod laws;
@@ -14,6 +15,7 @@ mod numbers;
 mod references;
 #[cfg(test)]
 mod tests;
+mod txns;
 mod types;
 
 pub use acceptance::accept;

@@ -1,13 +1,17 @@
-use Rattle.std.proofs.Common.{sym}
+use Rattle.std.proofs.Common.{sym, ◌∙◌}
 use Rattle.sv_app.specs.Acceptance.{ByTyping}
 use Rattle.sv_app.specs.Schema.{schema_of}
-use Rattle.sv_app.specs.Typing.{faults}
+use Rattle.sv_app.specs.Trees.{transactions_of}
+use Rattle.sv_app.specs.TxnTyping.{all_faults}
 use Rattle.sv_typing.proofs.AcceptanceLaws.{cycles_decide}
 use Rattle.sv_typing.proofs.FirstLaws.{noted_is_first, noted_is_none}
 use Rattle.sv_typing.proofs.acceptance.first_refusal.Goals as goal
 
 pub returns-in-Some : goal.returns-in-Some
-returns-in-Some c = ByTyping (noted_is_first (faults (schema_of c.args.tables.now)) c.in-Some.refusal (sym c.in-Some.ensures))
+returns-in-Some c =
+    ByTyping (noted_is_first (all_faults (schema_of c.args.tables.now) (transactions_of c.args.txns.now)) c.in-Some.refusal (sym c.in_ok-fault.ensures ∙ c.in-Some.is))
 
 pub returns-in-None : goal.returns-in-None
-returns-in-None c = cycles_decide (schema_of c.args.tables.now) c.first_cycle.result (noted_is_none (faults (schema_of c.args.tables.now)) (sym c.in-None.ensures)) c.first_cycle.ensures
+returns-in-None c =
+    cycles_decide (schema_of c.args.tables.now) (transactions_of c.args.txns.now) c.first_cycle.result
+    (noted_is_none (all_faults (schema_of c.args.tables.now) (transactions_of c.args.txns.now)) (sym c.in_ok-fault.ensures ∙ c.in-None.is)) c.first_cycle.ensures

@@ -1,0 +1,49 @@
+-- What transactions keep before their names and types are looked at: the grammar and the limits.
+use Rattle.std.specs.Prelude.{◌≡◌, ℕ, ◌≤◌, Bool, true, false, List, length}
+use Rattle.std.specs.List.{All, flat_map, filter}
+use Rattle.sv_app.specs.Depths.{depths, block_depth}
+use Rattle.sv_app.specs.Statements.{block_statements}
+use Rattle.sv_app.specs.Trees.{Term, Command, Declare, Assign, Fetch, Choose, ForRows, ForEach, Insert, Update, Remove, Abort, Reply, Block, Transaction}
+
+abbrev pub is_loop : Command → Bool
+is_loop (ForRows r t c body) = true
+is_loop (ForEach x l body) = true
+is_loop command = false
+
+abbrev pub is_declaration : Command → Bool
+is_declaration (Declare x e) = true
+is_declaration command = false
+
+abbrev pub loops_of : Block → List Command
+loops_of block = filter is_loop (block_statements block)
+
+-- one or two keys
+pub record IsKey (terms : List Term) : Type 0 where
+  pub some : 1 ≤ length terms
+  pub few : length terms ≤ 2
+
+-- keys, values and sets are written; no loop stands in a loop; an abort has a number up to 999
+abbrev pub KeepsStatement : Command → Type 0
+KeepsStatement (Fetch r t k) = IsKey k
+KeepsStatement (ForRows r t c body) = length (loops_of body) ≡ 0
+KeepsStatement (ForEach x l body) = length (loops_of body) ≡ 0
+KeepsStatement (Insert t vs) = 1 ≤ length vs
+KeepsStatement (Update t k ss) = IsKey k × (1 ≤ length ss)
+KeepsStatement (Remove t k) = IsKey k
+KeepsStatement (Abort n) = n ≤ 999
+KeepsStatement command = Unit {0}
+
+abbrev pub KeepsTxnGrammar : List Transaction → Type 0
+KeepsTxnGrammar txns = All (λ txn. All KeepsStatement (block_statements txn.body)) txns
+
+pub record IsSmallTxn (txn : Transaction) : Type 0 where
+  pub params : length txn.params ≤ 16
+  pub statements : length (block_statements txn.body) ≤ 128
+  pub blocks : block_depth txn.body ≤ 8
+  pub loops : length (loops_of txn.body) ≤ 15
+  pub variables : length (filter is_declaration (block_statements txn.body)) ≤ 32
+  pub expressions : All (λ depth. depth ≤ 16) (flat_map depths (block_statements txn.body))
+
+pub record KeepsTxnLimits (txns : List Transaction) : Type 0 where
+  pub count : length txns ≤ 32
+  pub each : All IsSmallTxn txns
