@@ -11,7 +11,6 @@ mod outcomes;
 mod reads;
 mod rows;
 mod seen;
-mod outcomes;
 
 pub use asks::{ask_next, ask_row};
 pub use cells::{Cell, Row};
@@ -23,4 +22,3 @@ pub use outcomes::{Outcome, Ran};
 pub use reads::{Ask, Halt, Read, Seen, Told};
 pub use rows::{RowStore, Rows};
 pub use sv_app::Got;
-pub use outcomes::{Outcome, Ran};

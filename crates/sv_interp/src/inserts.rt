@@ -4,7 +4,7 @@ ghost use Rattle.sv_app.specs.Schema.{declaration_of};
 ghost use Rattle.sv_app.specs.Slots.{item};
 ghost use Rattle.sv_app.specs.Symbols.{is_key_column};
 ghost use Rattle.sv_app.specs.Trees.{terms_of};
-ghost use Rattle.sv_app.specs.Valid.{is_grow_only};
+ghost use Rattle.sv_app.specs.Kinds.{is_grow_only};
 ghost use Rattle.sv_effect.specs.BareTables.{got_of};
 ghost use Rattle.sv_effect.specs.RowChange.{zero_of, key_values, from_key, values_from, zero_values};
 ghost use Rattle.sv_effect.specs.RunChanges.{writes_at, in_order, kept_to, insert_of, inserts, key_of, key_in, second_of};

@@ -2,7 +2,7 @@ ghost use Rattle.std.specs.Prelude.{◌≡◌, IfSome, ◌==◌, ◌++◌, ◌�
 ghost use Rattle.sv_app.specs.Schema.{declaration_of};
 ghost use Rattle.sv_app.specs.Symbols.{is_key_column};
 ghost use Rattle.sv_app.specs.Trees.{sets_of, terms_of};
-ghost use Rattle.sv_app.specs.Valid.{is_grow_only};
+ghost use Rattle.sv_app.specs.Kinds.{is_grow_only};
 ghost use Rattle.sv_effect.specs.BareTables.{got_of};
 ghost use Rattle.sv_effect.specs.RunChanges.{written_got, with_write, with_writes, delta_to, set_of, merge_of, sets_made, writes_at, in_order, kept_to, insert_of, inserts};
 ghost use Rattle.sv_effect.specs.RunValues.{column, values_of, Scope as RunScope};
