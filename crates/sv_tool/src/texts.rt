@@ -2,6 +2,7 @@ ghost use Rattle.std.specs.Prelude.{◌≡◌, ◌++◌, OnOk, length, filter, �
 ghost use Rattle.std.specs.Fmt.{decimal, signed_decimal};
 ghost use Rattle.sv_core.specs.Rows.{entry_of};
 ghost use Rattle.sv_tool.specs.CheckText.{ok_line};
+ghost use Rattle.sv_tool.specs.Accepted.{sizes_said};
 ghost use Rattle.sv_tool.specs.Lines.{packet_text, label_text, reply_text, answer_line, delivered_line, value_text, second_text, key_text, row_line, refusal_line};
 
 use itoa::Buffer;
@@ -25,14 +26,26 @@ pub fn put_count(out: &mut Vec<u8>, n: u64) -> Result<(), NoMemory>
     put_bytes(out, buffer.format(n).as_bytes())
 }
 
-/// Appends the line of so many accepted tables, without transactions and invariants.
+/// How many tables, transactions and invariants were accepted.
+#[derive(Clone, Copy, Debug)]
+pub struct Accepted {
+    pub tables: u64,
+    pub txns: u64,
+    pub invariants: u64,
+}
+
+/// Appends the line of a document that is accepted.
 #[tactic(auto, using(crate::proofs::AppendLaws::appends))]
-pub fn put_accepted(out: &mut Vec<u8>, tables: u64) -> Result<(), NoMemory>
-    ensures { OnOk result (out.new.items ≡ out.old.items ++ ok_line tables) }
+pub fn put_accepted(out: &mut Vec<u8>, accepted: &Accepted) -> Result<(), NoMemory>
+    ensures { OnOk result (out.new.items ≡ out.old.items ++ ok_line (sizes_said accepted.now)) }
 {
     put_bytes(out, b"ok ")?;
-    put_count(out, tables)?;
-    put_bytes(out, b" 0 0\n")
+    put_count(out, accepted.tables)?;
+    put_bytes(out, b" ")?;
+    put_count(out, accepted.txns)?;
+    put_bytes(out, b" ")?;
+    put_count(out, accepted.invariants)?;
+    put_bytes(out, b"\n")
 }
 
 /// Appends the name of a packet.

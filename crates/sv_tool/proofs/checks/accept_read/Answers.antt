@@ -1,6 +1,0 @@
-use Rattle.sv_app.specs.Schema.{schema_of}
-use Rattle.sv_tool.proofs.CheckLaws.{accepted_as}
-use Rattle.sv_tool.proofs.checks.accept_read.Goals as goal
-
-pub returns-in-None-clause-all : goal.returns-in-None-clause-all
-returns-in-None-clause-all c = λ early accepted. accepted_as c.accept.result (schema_of c.args.tables.items) c.accept.ensures.tables c.accept.ensures.refused accepted
