@@ -12,7 +12,8 @@ ghost use Rattle.sv_app.specs.TxnNumbers.{numbered_txns};
 use crate::cycles::first_cycle;
 use crate::faults::first_fault;
 use crate::numbers::number_all;
-use crate::fills::number_txns;
+use crate::txn_numbers::number_txns;
+
 use std::alloc::Global;
 use sv_app::{App, Refusal, Stop, Table, Txn};
 use sv_value::NoMemory;
