@@ -22,7 +22,7 @@ one_statement at next ss i s held own now goal h e before step inner moved =
     let more : List Refusal = block_faults next (block_of (drop (i + 1) ss)) in
     let split : noted held (block_faults at (block_of (drop i ss))) ≡ noted held (command_faults at (command_of s) ++ inner_faults at (command_of s) ++ more) = rw (at_drop ss i s h e, moved) refl in
     let first : now ≡ noted held (command_faults at (command_of s) ++ inner_faults at (command_of s)) =
-        inner ∙ ap (λ o. noted o (inner_faults at (command_of s))) step ∙ sym (noted_append held (command_faults at (command_of s)) (inner_faults at (command_of s))) in
+    inner ∙ ap (λ o. noted o (inner_faults at (command_of s))) step ∙ sym (noted_append held (command_faults at (command_of s)) (inner_faults at (command_of s))) in
     ap (λ o. noted o more) first ∙ sym (noted_append held (command_faults at (command_of s) ++ inner_faults at (command_of s)) more) ∙ sym split ∙ before
 
 pub ruleset walking = (one_statement)

@@ -7,7 +7,9 @@ ghost use Rattle.sv_app.specs.Trees.{command_of, block_of, term_of, terms_of, se
 ghost use Rattle.sv_app.specs.TxnNumbers.{columns_of, numbered_command, numbered_block};
 ghost use Rattle.sv_typing.specs.Standing.{naming_of, IsSmall};
 
-use crate::fills::{Naming, fill_cond, fill_condition, fill_expr, fill_exprs, fill_sets, number_name};
+use crate::fills::{
+    Naming, fill_cond, fill_condition, fill_expr, fill_exprs, fill_sets, number_name,
+};
 use crate::lookups::table_of;
 use crate::numbers::number_table;
 use std::alloc::Global;
@@ -54,12 +56,7 @@ fn fill_get(
     })
 }
 
-fn fill_insert(
-    alloc: Global,
-    by: &Naming,
-    table: &Ident,
-    values: &[Expr],
-) -> Result<Stmt, NoMemory>
+fn fill_insert(alloc: Global, by: &Naming, table: &Ident, values: &[Expr]) -> Result<Stmt, NoMemory>
     requires { IsSmall (naming_of by.now) }
     ensures { IfOk result (λ copy. command_of copy ≡ numbered_command (naming_of by.now) (Insert table.now (terms_of values.now))) }
 {
@@ -106,12 +103,7 @@ fn fill_update(
     })
 }
 
-fn fill_remove(
-    alloc: Global,
-    by: &Naming,
-    table: &Ident,
-    key: &[Expr],
-) -> Result<Stmt, NoMemory>
+fn fill_remove(alloc: Global, by: &Naming, table: &Ident, key: &[Expr]) -> Result<Stmt, NoMemory>
     requires { IsSmall (naming_of by.now) }
     ensures { IfOk result (λ copy. command_of copy ≡ numbered_command (naming_of by.now) (Remove table.now (terms_of key.now))) }
 {

@@ -1,6 +1,5 @@
 ghost use Rattle.std.specs.Prelude.{◌≡◌, ◌++◌, OnOk, not};
 ghost use Rattle.std.specs.Option.{option_map};
-
 ghost use Rattle.sv_app.specs.Trees.{command_of, block_of, term_of, test_of, Assign};
 ghost use Rattle.sv_app.specs.TxnTyping.{assignment_faults, no_table, condition_faults, inner_faults, walk_faults, is_list as list_is, declared_type, behind, command_faults, block_faults};
 ghost use Rattle.sv_app.specs.Lookups.{holds_of};
@@ -89,12 +88,7 @@ fn note_rows(
 }
 
 /// Notes what is wrong with a statement, the blocks in it left out.
-fn note_stmt(
-    alloc: Global,
-    first: &mut First,
-    at: &Scope,
-    stmt: &Stmt,
-) -> Result<(), NoMemory>
+fn note_stmt(alloc: Global, first: &mut First, at: &Scope, stmt: &Stmt) -> Result<(), NoMemory>
     ensures { OnOk result (first.new.held ≡ noted first.old.held (command_faults (scope_of at.now) (command_of stmt.now))) }
 {
     match parts_of(stmt) {
@@ -104,7 +98,10 @@ fn note_stmt(
         Parts::Get { row, table, key } => note_fetch(first, at, &row, &table, key),
         Parts::If { cond, .. } => note_test(first, at, cond),
         Parts::Rows {
-            row, table, cond, ..
+            row,
+            table,
+            cond,
+            ..
         } => return note_rows(alloc, first, at, &row, &table, cond),
         Parts::Each { list, .. } => note_walk(first, meaning_of(at, &list), &list),
         Parts::Insert { table, values } => note_insert(first, at, &table, values),
@@ -197,7 +194,10 @@ fn note_inner(
             note_block(alloc, first, tables, known, no)
         }
         Parts::Rows {
-            row, table, body, ..
+            row,
+            table,
+            body,
+            ..
         } => {
             let inside = with_name(alloc, known, row, Meaning::Row(table))?;
             note_block(alloc, first, tables, &inside, body)
