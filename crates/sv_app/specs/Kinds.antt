@@ -13,3 +13,11 @@ allows Auset Insert = true
 allows Auset Update = true
 allows Arset act = true
 allows kind act = false
+
+-- the tables whose rows are never removed
+abbrev pub is_grow_only : Kind → Bool
+is_grow_only Plain = false
+is_grow_only Aoset = true
+is_grow_only Uoset = true
+is_grow_only Auset = true
+is_grow_only Arset = false

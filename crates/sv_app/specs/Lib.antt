@@ -1,5 +1,5 @@
 pub mod Acceptance
-pub mod AcceptedApp
+pub mod Accepted
 pub mod CodedTables
 pub mod Codes
 pub mod Conditions
@@ -9,10 +9,15 @@ pub mod Kinds
 pub mod Lookups
 pub mod Numbers
 pub mod Parts
+pub mod Paths
 pub mod References
+pub mod Satisfiable
 pub mod Schema
 pub mod Scopes
+pub mod Shaped
+pub mod Slots
 pub mod Statements
+pub mod Symbols
 pub mod Tables
 pub mod TermTypes
 pub mod Trees
@@ -21,5 +26,7 @@ pub mod TxnNames
 pub mod TxnNumbers
 pub mod TxnTyping
 pub mod Typing
+pub mod Units
+pub mod Valid
 pub mod Weights
 pub mod Words

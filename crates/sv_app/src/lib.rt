@@ -4,6 +4,7 @@
 mod acts;
 mod apps;
 mod gots;
+mod instances;
 mod names;
 mod parts;
 mod places;
@@ -16,6 +17,7 @@ mod words;
 pub use acts::Act;
 pub use apps::{App, Ident};
 pub use gots::Got;
+pub use instances::{Instance, Source};
 pub use names::{Declared, Known, Meaning};
 pub use parts::{Parts, each, if_else, parts_of, rows};
 pub use places::Place;

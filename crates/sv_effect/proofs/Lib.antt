@@ -1,6 +1,7 @@
 pub mod CellLaws
 pub mod CommuteLaws
 pub mod FitLaws
+pub mod FollowLaws
 pub mod GreatestLaws
 pub mod KeptLaws
 pub mod MediumLaws
@@ -10,6 +11,7 @@ pub mod PlaceListLaws
 pub mod Promises
 pub mod RowLaws
 pub mod SequenceLaws
+pub mod SourceLaws
 pub mod SumLaws
 pub mod TableLaws
 pub mod TestLaws

@@ -7,12 +7,11 @@ use Rattle.sv_app.specs.declared.acts.Act.{Act}
 use Rattle.sv_app.specs.declared.acts.Act.TheVariants.{Insert, Update, Remove}
 use Rattle.sv_app.specs.declared.apps.Ident.{Ident}
 use Rattle.sv_app.specs.declared.schemas.Column.{Column}
-use Rattle.sv_app.specs.declared.schemas.Kind.{Kind}
-use Rattle.sv_app.specs.declared.schemas.Kind.TheVariants as kinds
 use Rattle.sv_app.specs.declared.schemas.Merge.TheVariants.{NumDelta, Lww}
 use Rattle.sv_app.specs.declared.schemas.Merge.TheVariants as merges
 use Rattle.sv_app.specs.declared.schemas.Ty.{Ty}
 use Rattle.sv_app.specs.declared.schemas.Ty.TheVariants as types
+use Rattle.sv_app.specs.Kinds.{allows}
 use Rattle.sv_app.specs.Schema.{Declaration}
 use Rattle.sv_effect.specs.declared.cells.Cell.{Cell}
 use Rattle.sv_effect.specs.declared.cells.Cell.TheVariants.{Count, Last, Plain}
@@ -26,15 +25,6 @@ abbrev pub HasType : Ty → Val → Type 0
 HasType types.Int (Int n) = Unit {0}
 HasType types.Text (IsText t) = Unit {0}
 HasType _ _ = ⊥
-
-abbrev pub allows : Kind → Act → Bool
-allows kinds.Plain act = true
-allows kinds.Aoset Insert = true
-allows kinds.Uoset Update = true
-allows kinds.Auset Insert = true
-allows kinds.Auset Update = true
-allows kinds.Arset act = true
-allows kind act = false
 
 -- the values are of the columns that the key names, in order
 abbrev pub KeyFits : List Column → List Ident → List Val → Type 0

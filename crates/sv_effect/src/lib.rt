@@ -1,12 +1,24 @@
-//! What operations change: changes of rows, the tables that they make, and the tables of a cut.
+//! What operations change: changes of rows, the tables that they make, and the tables of a cut; and sources of rows.
 #![tactic(auto)]
 
+mod asks;
 mod cells;
 mod changes;
 mod laws;
+mod noted;
 mod ops;
+mod outcomes;
+mod reads;
+mod rows;
+mod seen;
 
+pub use asks::{ask_next, ask_row};
 pub use cells::{Cell, Row};
 pub use changes::apply_row;
 pub use laws::{any_sequence, fitting_kept, greatest_is, one_more, unthreatened_commute};
+pub use noted::Noted;
 pub use ops::{Need, Op, RowEffect, Write};
+pub use outcomes::{Outcome, Ran};
+pub use reads::{Ask, Halt, Read, Seen, Told};
+pub use rows::{RowStore, Rows};
+pub use sv_app::Got;

@@ -1,27 +1,15 @@
 -- What a store asks of an operation: rows that are updated or removed are there, counts stay in their bounds, and there is room for the inserts.
-use Rattle.std.specs.Prelude.{◌≡◌, ℕ, ◌+◌, ◌≤◌, List, [], ◌∷◌, length, Option, Some, None, unwrap_or, slice_get}
+use Rattle.std.specs.Prelude.{ℕ, ◌+◌, List, [], ◌∷◌, Option, Some, None, unwrap_or}
 use Rattle.std.specs.FinMap.{get}
-use Rattle.sv_value.specs.declared.stamps.Stamp.{Stamp}
 use Rattle.sv_app.specs.declared.acts.Act.{Act}
 use Rattle.sv_app.specs.declared.acts.Act.TheVariants.{Insert, Update, Remove}
 use Rattle.sv_app.specs.Schema.{Declaration}
 use Rattle.sv_effect.specs.declared.ops.RowEffect.{RowEffect}
 use Rattle.sv_effect.specs.StampedTables.{StampedRow, StampedTables}
-use Rattle.sv_effect.specs.RowChange.{changed, is_annotated, zero_row}
 use Rattle.sv_effect.specs.Applied.{Change, place_of, zero_row_in, changed_at, with_change_at}
 use Rattle.sv_effect.specs.Fits.{CountsFit}
 
--- the row that a change starts from, and the row that it leaves
-abbrev pub standing : Declaration → RowEffect → StampedTables → StampedRow
-standing table e t = unwrap_or (get t (place_of e)) (zero_row table e.key)
-
-abbrev pub left_by : Declaration → Stamp → RowEffect → StampedTables → StampedRow
-left_by table s e t = changed (is_annotated table.kind) s e (standing table e t)
-
--- no table has more than 16 columns
-abbrev pub IsNarrowSchema : List Declaration → Type 0
-IsNarrowSchema schema = (number : ℕ) (table : Declaration) → slice_get schema number ≡ Some table → length table.columns ≤ 16
-
+-- the row that a change leaves
 abbrev pub row_left : List Declaration → Change → StampedTables → StampedRow
 row_left schema c t = changed_at schema (place_of c.value) c (unwrap_or (get t (place_of c.value)) (zero_row_in schema (place_of c.value)))
 

@@ -1,0 +1,13 @@
+//! Reads the transactions of a document: what is read is what the grammar says, and a refusal stands at the first token
+//! that no rule allows or that passes a limit.
+#![tactic(auto)]
+
+mod beginnings;
+mod counts;
+mod graded;
+mod heads;
+mod reading;
+// mod terms;
+
+pub use counts::Counts;
+pub use reading::read_txns;
