@@ -1,7 +1,9 @@
-ghost use Rattle.std.specs.Prelude.{◌≡◌, ◌++◌, OnOk, not};
+ghost use Rattle.std.specs.Prelude.{◌≡◌, ◌++◌, List, OnOk, not};
+ghost use Rattle.std.specs.Prelude.{None as none};
+ghost use Rattle.sv_app.specs.declared.refusals.Refusal.{Refusal as RefusalValue};
 ghost use Rattle.std.specs.Option.{option_map};
 ghost use Rattle.sv_app.specs.Trees.{command_of, block_of, term_of, test_of, Assign};
-ghost use Rattle.sv_app.specs.TxnTyping.{assignment_faults, no_table, condition_faults, inner_faults, walk_faults, is_list as list_is, declared_type, behind, command_faults, block_faults};
+ghost use Rattle.sv_app.specs.TxnTyping.{assignment_faults, no_table, condition_faults, inner_faults, walk_faults, is_list as list_is, type_if_right, declared_type, behind, command_faults, block_faults};
 ghost use Rattle.sv_app.specs.Lookups.{holds_of};
 ghost use Rattle.sv_typing.specs.Noted.{noted};
 ghost use Rattle.sv_typing.specs.Standing.{scope_of, in_block, knowing as knowing_if};
@@ -112,16 +114,25 @@ fn note_stmt(alloc: Global, first: &mut First, at: &Scope, stmt: &Stmt) -> Resul
     Ok(())
 }
 
+/// The type, where nothing was found to be wrong.
+#[tactic(auto, using(crate::proofs::StatementLaws::rights))]
+fn type_if_right(first: &First, ty: Option<Ty>) -> Option<Ty>
+    ensures { (faults : List RefusalValue) → first.now.held ≡ noted none faults → result ≡ type_if_right faults ty }
+{
+    match &first.held {
+        Some(_) => None,
+        None => ty,
+    }
+}
+
 /// The type of a variable that is declared with the expression.
 fn declared_type(at: &Scope, value: &Expr) -> Option<Ty>
     ensures { result ≡ declared_type (scope_of at.now) (term_of value.now) }
 {
     let mut first = First::none();
     note_term(&mut first, at, value);
-    match first.held {
-        Some(_) => None,
-        None => type_of(at, value),
-    }
+    let ty = type_of(at, value);
+    type_if_right(&first, ty)
 }
 
 /// What is declared by a statement, for the statements behind it.
