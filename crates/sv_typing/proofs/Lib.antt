@@ -3,6 +3,7 @@ pub mod NotedLaws
 pub mod PlaceLaws
 pub mod CycleLaws
 pub mod DeclaredLaws
+pub mod FillLaws
 pub mod FirstLaws
 pub mod LookupLaws
 pub mod StatementLaws

@@ -12,17 +12,13 @@ ghost use Rattle.sv_app.specs.TxnNumbers.{numbered_txns};
 use crate::cycles::first_cycle;
 use crate::faults::first_fault;
 use crate::numbers::number_all;
-use crate::fills::number_txns;
+use crate::txn_numbers::number_txns;
 use std::alloc::Global;
 use sv_app::{App, Refusal, Stop, Table, Txn};
 use sv_value::NoMemory;
 
 /// The refusal that the tables and transactions get, if they aren't accepted.
-fn first_refusal(
-    alloc: Global,
-    tables: &[Table],
-    txns: &[Txn],
-) -> Result<Option<Refusal>, NoMemory>
+fn first_refusal(alloc: Global, tables: &[Table], txns: &[Txn]) -> Result<Option<Refusal>, NoMemory>
     requires { KeepsLimits (schema_of tables.now) }
     ensures { IfOk result (λ found. MatchOption found (IsAccepted (schema_of tables.now) (transactions_of txns.now)) (λ refusal. IsRefused (schema_of tables.now) (transactions_of txns.now) refusal)) }
 {
