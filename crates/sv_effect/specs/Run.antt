@@ -94,8 +94,8 @@ fetched r st row = Goes (with_scope st (with_row r row.values st.scope))
 -- the 65th change isn't made
 abbrev pub changed : Effect → Row → Stand → Flow
 changed e row st = if nat_lt (length st.effects) 64
-  then Goes (record st { tables = insert st.tables e.place row; effects = st.effects ++ e ∷ [] })
-  else Ends outcomes.TooLarge
+    then Goes (record st { tables = insert st.tables e.place row; effects = st.effects ++ e ∷ [] })
+    else Ends outcomes.TooLarge
 
 abbrev pub row_with : List Got → Bool → Row
 row_with values present = record { values = values; present = present }
@@ -106,13 +106,13 @@ updating values s = record s { old = values; progress = record s.progress { know
 
 abbrev pub updated : Declaration → Place → List (Ident × Term) → Stand → Row → Flow
 updated table p sets st row = on_value (sets_made table.columns sets (updating row.values st.scope)) st (λ ws z.
-  let writes = in_order table 0 table.columns ws in
-  changed (record { place = p; act = acts.Update; writes = writes; instance = z.scope.progress.number }) (row_with (with_writes writes row.values) true) z)
+    let writes = in_order table 0 table.columns ws in
+    changed (record { place = p; act = acts.Update; writes = writes; instance = z.scope.progress.number }) (row_with (with_writes writes row.values) true) z)
 
 abbrev pub inserted : Declaration → Place → List Val → Option Row → Stand → Flow
 inserted table p vs row st = if stands row then Ends outcomes.Exists else
-  on_value (inserts table vs (kept_values table p.key row) 0 table.columns st.scope) st (λ writes z.
-  changed (record { place = p; act = acts.Insert; writes = writes; instance = z.scope.progress.number }) (row_with (with_writes writes (kept_values table p.key row)) true) z)
+    on_value (inserts table vs (kept_values table p.key row) 0 table.columns st.scope) st (λ writes z.
+    changed (record { place = p; act = acts.Insert; writes = writes; instance = z.scope.progress.number }) (row_with (with_writes writes (kept_values table p.key row)) true) z)
 
 abbrev pub removed : Place → Stand → Row → Flow
 removed p st row = changed (record { place = p; act = acts.Remove; writes = []; instance = st.scope.progress.number }) (row_with row.values false) st
