@@ -1,6 +1,7 @@
 //! Runs transactions on rows that are asked for as they are needed.
 #![tactic(auto)]
 
+mod changes;
 mod inserts;
 mod looks;
 mod needs;
