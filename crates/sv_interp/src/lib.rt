@@ -6,6 +6,7 @@ mod inserts;
 mod looks;
 mod needs;
 mod scopes;
+mod statements;
 mod states;
 mod slots;
 mod values;
