@@ -24,4 +24,9 @@ pub looked : (f : Stand → Flow) (o n : Option Tables) (a b : Option (List Read
     → ((t : Tables) → get (over own t) p ≡ own_rows found → f (stand t s) ≡ flow_of end (stand t s')) → Runs f o n a b s end s'
 looked f o n a b s end s' own p found g h = record { ran = follow.so o n a b _ _ g h }
 
-pub ruleset steps = (quiet, looked)
+-- a step that first changes the state, and asks nothing till then
+pub entering : (f h : Stand → Flow) (o n : Option Tables) (a b : Option (List ReadValue)) (s u : State) (end : Option Outcome) (s' : State)
+    → ((t : Tables) → f (stand t s) ≡ h (stand t u)) → Runs h o n a b u end s' → Runs f o n a b s end s'
+entering f h o n a b s u end s' e g = record { ran = follow.so o n a b _ _ g.ran (λ t r. e t ∙ r) }
+
+pub ruleset steps = (quiet, looked, entering)

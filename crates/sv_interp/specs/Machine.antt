@@ -4,7 +4,8 @@ use Rattle.std.specs.FinMap.{get, insert}
 use Rattle.std.specs.Borrow.{Bor}
 use Rattle.sv_value.specs.declared.values.Val.{Val}
 use Rattle.sv_app.specs.declared.places.Place.{Place}
-use Rattle.sv_app.specs.Schema.{schema_of}
+use Rattle.sv_app.specs.declared.schemas.Table.{Table}
+use Rattle.sv_app.specs.Schema.{Declaration, declaration_of, schema_of}
 use Rattle.sv_app.specs.Tables.{Row, Tables}
 use Rattle.sv_effect.specs.declared.outcomes.Outcome.{Outcome}
 use Rattle.sv_effect.specs.Follows.{Follows}
@@ -38,6 +39,10 @@ evaluated (Some v) s = Gives v (scope_of s)
 abbrev pub listed : {A : Type 0} → Option A → List A
 listed None = []
 listed (Some x) = x ∷ []
+
+abbrev pub declared : Option (Bor Table) → Option Declaration
+declared None = None
+declared (Some table) = Some (declaration_of table.now)
 
 -- the rows that the run wrote itself, the latest first, over the tables
 abbrev pub own_row : OwnRow → Row
