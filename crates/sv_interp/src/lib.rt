@@ -4,6 +4,7 @@
 mod changes;
 mod inserts;
 mod looks;
+mod loops;
 mod needs;
 mod scopes;
 mod statements;
