@@ -1,2 +1,4 @@
 pub mod Initial
+pub mod Rules
+pub mod Tests
 pub mod Verdicts

@@ -3,6 +3,7 @@
 
 mod after;
 mod initial;
+mod rules;
 mod verdicts;
 
 pub use after::check_after;
