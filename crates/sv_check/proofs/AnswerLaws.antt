@@ -1,11 +1,11 @@
 -- The first initial row that breaks an invariant, and that the tables are valid where there is none.
-use Rattle.std.proofs.Common.{◌≡◌, ◌⊎◌, inl, inr, ℕ, zero, suc, ◌+◌, ◌<◌, ◌≤◌, Bool, true, false, List, [], ◌∷◌, ◌++◌, length, take, get_or, Option, Some, None, slice_get, refl, sym, ap, subst, ◌∙◌, arith}
+use Rattle.std.proofs.Common.{◌≡◌, ◌⊎◌, inl, inr, ℕ, zero, suc, ◌+◌, ◌<◌, ◌≤◌, ◌||◌, Bool, true, false, List, [], ◌∷◌, ◌++◌, length, take, get_or, Option, Some, None, slice_get, refl, sym, ap, subst, ◌∙◌, arith}
 use Rattle.std.specs.Prelude.{map}
 use Rattle.std.specs.List.{flat_map, find, Contains}
 use Rattle.std.specs.Option.{option_map}
 use Rattle.std.specs.FinMap.{get}
 use Rattle.std.proofs.lemmas.Bool.{cases_eq, cases_lt}
-use Rattle.std.proofs.lemmas.Option.{slice_get_within}
+use Rattle.std.proofs.lemmas.Option.{slice_get_within, get_or_from_slice_get}
 use Rattle.sv_value.specs.declared.values.Key.{Key}
 use Rattle.sv_app.specs.declared.apps.Ident.{Ident}
 use Rattle.sv_app.specs.declared.places.Place.{Place}
@@ -20,11 +20,12 @@ use Rattle.sv_effect.specs.Initial.{AreDistinct}
 use Rattle.sv_effect.specs.TablesOfCut.{init_place}
 use Rattle.sv_check.specs.declared.initial.Held.{Held}
 use Rattle.sv_check.specs.Initial.{initial_row, initial_tables, HasEarlier, Fails, BreaksAt, IsFirst}
-use Rattle.sv_check.specs.Tests.{rules_of, is_there, fails, first_failed}
+use Rattle.sv_check.specs.Tests.{held_cmp, rules_of, held_by, is_held, is_there, fails, first_failed}
 use Rattle.sv_check.proofs.FailLaws.{held_before, breaks, IsOwn, keeps, seen_before, unbroken, invariants_in}
 use Rattle.sv_check.proofs.InitialLaws.{IsInitial, kept_from, kept_at, one_place}
 use Rattle.sv_check.proofs.ListLaws.{Stands, contains_at, find_none, IsFound, find_some, map_none, IsSomeBy, map_some, same_some}
 use Rattle.sv_check.proofs.RuleLaws.{clash}
+use Rattle.sv_check.proofs.SetLaws.{noted_more}
 
 -- what the i-th row breaks first
 abbrev pub first_of : List Declaration → List InitRow → ℕ → InitRow → Option ℕ
@@ -218,3 +219,9 @@ not_valid schema init i number distinct broken valid = split broken.inv.rule bro
           ap (λ n. get (initial_tables init) (place_at n failed.other.key)) (sym failed.beside) ∙ kept_at init failed.earlier failed.other distinct failed.stands in
         let same : failed.other.key ≡ broken.row.key = holds refl failed.other.key (initial_row failed.other) kept refl failed.equal in
         one_place init failed.earlier i failed.other broken.row distinct failed.stands broken.stands failed.before (λ k. place_at (failed.beside k) (same k))
+
+-- one row more is held, where its values are noted
+pub held_more : (schema : List Declaration) (init : List InitRow) (i : ℕ) (row : InitRow) (old new : Held → Bool) → i < length init → slice_get init i ≡ Some row
+    → ((h : Held) → old h ≡ held_before schema init i h) → ((h : Held) → new h ≡ (old h || is_held h (held_by schema row))) → (h : Held) → new h ≡ held_before schema init (i + 1) h
+held_more schema init i row old new less at before noted h =
+    noted_more held_cmp (held_by schema) init i row false (old h) (new h) h less (sym (get_or_from_slice_get init i row row at)) (before h) (noted h)

@@ -5,4 +5,5 @@ pub mod InitialLaws
 pub mod ListLaws
 pub mod RuleLaws
 pub mod SetLaws
+pub mod TableLaws
 pub mod ValueLaws

@@ -11,7 +11,7 @@ pub record Stands {A : Type 0} (xs : List A) (x : A) : Type 0 where
   pub number : ℕ
   pub at : slice_get xs number ≡ Some x
 
-get_at : {A : Type 0} (xs : List A) (k : ℕ) (d : A) → k < length xs → slice_get xs k ≡ Some (get_or xs k d)
+pub get_at : {A : Type 0} (xs : List A) (k : ℕ) (d : A) → k < length xs → slice_get xs k ≡ Some (get_or xs k d)
 get_at [] k d lt = absurd (omega (arith, lt))
 get_at (x ∷ xs) zero d lt = refl
 get_at (x ∷ xs) (suc k) d lt = get_at xs k d (omega (arith, lt))

@@ -16,7 +16,7 @@ ghost use Rattle.sv_effect.specs.TablesOfCut.{init_place};
 ghost use Rattle.sv_check.specs.declared.initial.Held.{Held as HeldValue};
 ghost use Rattle.sv_check.specs.Initial.{initial_row, initial_tables, IsAnswer};
 ghost use Rattle.sv_check.specs.Rules.{IsSmall};
-ghost use Rattle.sv_check.specs.Tests.{val_in, held_cmp, held_of, held_by, is_held, is_there, referred, fails, first_failed};
+ghost use Rattle.sv_check.specs.Tests.{val_in, held_cmp, held_of, held_by, is_held, is_there, referred, rules_of, fails, first_failed};
 
 use std::alloc::Global;
 use std::collections::BTreeSet;
@@ -120,7 +120,7 @@ fn fails(
     }
 }
 
-/// The lowest invariant of its table that the row breaks.
+/// The lowest of the invariants that the row breaks.
 #[tactic(auto, using(crate::proofs::FindLaws::finding))]
 fn first_failed(
     app: &App,
@@ -137,6 +137,19 @@ fn first_failed(
         }
     }
     None
+}
+
+/// The invariants of the row's table.
+#[tactic(auto, using(crate::proofs::TableLaws::declared))]
+fn invs_of<'a>(app: &'a App, row: &InitRow) -> &'a [Inv]
+    ensures { map invariant_of result.now ≡ rules_of (slice_get (schema_of app.now.tables.items) row.now.table) }
+{
+    let table = row.table as usize;
+    if table < app.tables.len() {
+        app.tables[table].invs.as_slice()
+    } else {
+        &[]
+    }
 }
 
 /// The places of the rows.
@@ -193,5 +206,14 @@ pub fn check_all(
     ensures answer { IfOk result (λ found. IsAnswer (schema_of app.now.tables.items) init.now found) }
     ensures wrong { IfOk result (λ found. IfSome found (λ _. Valid (schema_of app.now.tables.items) (initial_tables init.now) → ⊥)) }
 {
-    Err(NoMemory)
+    let places = places_of(alloc, init)?;
+    let mut earlier = BTreeSet::new(alloc);
+    for (place, row) in init.iter().enumerate() {
+        let invs = invs_of(app, row);
+        match first_failed(app, invs, row, &places, &earlier) {
+            Some(number) => return Ok(Some((number, place as u32))),
+            None => note(invs, row, &mut earlier)?,
+        }
+    }
+    Ok(None)
 }
