@@ -11,6 +11,7 @@ pub mod Numbers
 pub mod Parts
 pub mod Paths
 pub mod References
+pub mod Satisfiable
 pub mod Schema
 pub mod Scopes
 pub mod Shaped

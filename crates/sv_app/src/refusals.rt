@@ -2,10 +2,10 @@ ghost use Rattle.std.specs.Prelude.{◌≡◌};
 ghost use Rattle.sv_app.specs.Codes.{number_of};
 
 use std::alloc::{AllocError, AllocFailed};
-use sv_value::{NoMemory, Spot};
+use sv_value::{List, NoMemory, Spot};
 
 /// Why a document is refused.
-#[derive(Clone, Copy, Debug, PartialEq, Eq)]
+#[derive(Debug, Drop)]
 pub enum Code {
     /// A token that the grammar doesn't allow at its place.
     Syntax,
@@ -21,8 +21,15 @@ pub enum Code {
     Many,
     /// Tables that refer to each other in a circle.
     Cyclic,
+    /// The checks of a table, by its number, that no row can meet. `cycle` are numbers of its checks, from 0 and in order
+    /// of writing: added up, they leave no number that could meet them.
+    Unsatisfiable { table: u16, cycle: List<u32> },
+    /// An initial row, by its number from 0, that breaks an invariant, by its number.
+    BadInit { inv: u16, row: u32 },
     /// A document of too many bytes.
     TooLong,
+    /// A number of a session, a site or a packet that isn't allowed in a step.
+    BadStep,
 }
 
 impl Code {
@@ -38,20 +45,23 @@ impl Code {
             Code::Typing => 5,
             Code::Many => 6,
             Code::Cyclic => 7,
+            Code::Unsatisfiable { .. } => 8,
+            Code::BadInit { .. } => 9,
             Code::TooLong => 10,
+            Code::BadStep => 11,
         }
     }
 }
 
 /// A refusal: where, and why.
-#[derive(Clone, Copy, Debug, PartialEq, Eq)]
+#[derive(Debug, Drop)]
 pub struct Refusal {
     pub spot: Spot,
     pub code: Code,
 }
 
 /// Why a reader has no answer.
-#[derive(Clone, Copy, Debug, PartialEq, Eq)]
+#[derive(Debug, Drop)]
 pub enum Stop {
     Refused(Refusal),
     NoMemory,

@@ -10,7 +10,8 @@ use Rattle.sv_app.specs.Valid.{Valid}
 use Rattle.sv_effect.specs.Applied.{zeros_in}
 use Rattle.sv_effect.specs.RowChange.{turn_of}
 use Rattle.sv_effect.specs.Run.{row_with}
-use Rattle.sv_effect.specs.RunChanges.{Effect, got_of, with_writes, stands}
+use Rattle.sv_effect.specs.BareTables.{got_of}
+use Rattle.sv_effect.specs.RunChanges.{Effect, with_writes, stands}
 
 -- the values that a change starts from: those of the kept row, else zeros with the key
 abbrev pub values_before : List Declaration → Place → Option Row → List Got

@@ -6,14 +6,14 @@ use sv_app::Code;
 use sv_value::NoMemory;
 
 /// A refusal at the first of the last `left` tokens, or at the end of the document if `left` is 0.
-#[derive(Clone, Copy, Debug, PartialEq, Eq)]
+#[derive(Debug, Drop)]
 pub struct Fault {
     pub code: Code,
     pub left: usize,
 }
 
 /// Why nothing was read.
-#[derive(Clone, Copy, Debug, PartialEq, Eq)]
+#[derive(Debug, Drop)]
 pub enum Halt {
     Faulty(Fault),
     NoMemory,

@@ -20,8 +20,8 @@ pub fn is_same_place(a: Spot, b: Spot) -> bool
     a.line == b.line && a.col == b.col
 }
 
-fn comes_before(a: Refusal, b: Refusal) -> bool
-    ensures { result ≡ comes_before a b }
+fn comes_before(a: &Refusal, b: &Refusal) -> bool
+    ensures { result ≡ comes_before a.now b.now }
 {
     is_earlier(a.spot, b.spot)
         || (is_same_place(a.spot, b.spot) && a.code.number() < b.code.number())
@@ -44,10 +44,10 @@ impl First {
     fn note(&mut self, refusal: Refusal)
         ensures { self.new.held ≡ noted self.old.held (refusal ∷ []) }
     {
-        match self.held {
+        match &self.held {
             None => self.held = Some(refusal),
             Some(held) => {
-                if comes_before(refusal, held) {
+                if comes_before(&refusal, held) {
                     self.held = Some(refusal);
                 }
             }
