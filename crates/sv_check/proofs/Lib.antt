@@ -2,8 +2,11 @@ pub mod AnswerLaws
 pub mod FailLaws
 pub mod FindLaws
 pub mod InitialLaws
+pub mod LeftLaws
 pub mod ListLaws
 pub mod RuleLaws
 pub mod SetLaws
+pub mod SlotLaws
 pub mod TableLaws
 pub mod ValueLaws
+pub mod WriteLaws

@@ -3,8 +3,10 @@
 
 mod after;
 mod initial;
+mod left;
 mod rules;
 mod verdicts;
+mod writes;
 
 pub use after::check_after;
 pub use initial::check_all;
