@@ -1,4 +1,5 @@
 pub mod AnswerLaws
+pub mod ChangeLaws
 pub mod FailLaws
 pub mod FindLaws
 pub mod InitialLaws

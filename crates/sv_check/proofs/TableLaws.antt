@@ -3,6 +3,9 @@ use Rattle.std.proofs.Common.{◌≡◌, ℕ, zero, suc, ◌<◌, ◌≤◌, Lis
 use Rattle.std.specs.Prelude.{map}
 use Rattle.sv_app.specs.declared.schemas.Table.{Table}
 use Rattle.sv_app.specs.Schema.{declaration_of, schema_of, invariant_of}
+use Rattle.sv_app.specs.declared.places.Place.{Place}
+use Rattle.sv_effect.specs.Applied.{zeros_of, zeros_in}
+use Rattle.sv_effect.specs.RowChange.{zero_values}
 use Rattle.sv_check.specs.Tests.{rules_of}
 
 pub declared_as : (tables : List Table) (n : ℕ) (d : Table) → n < length tables → slice_get (schema_of tables) n ≡ Some (declaration_of (get_or tables n d))
@@ -21,4 +24,10 @@ rules_at tables n d less = sym (ap rules_of (declared_as tables n d less))
 pub no_rules : (tables : List Table) (n : ℕ) → length tables ≤ n → [] ≡ rules_of (slice_get (schema_of tables) n)
 no_rules tables n le = sym (ap rules_of (undeclared tables n le))
 
-pub ruleset declared = (rules_at, no_rules)
+pub zeros_at : (tables : List Table) (p : Place) (d : Table) → p.table < length tables → zero_values (declaration_of (get_or tables p.table d)) p.key ≡ zeros_in (schema_of tables) p
+zeros_at tables p d less = sym (ap (λ o. zeros_of o p.key) (declared_as tables p.table d less))
+
+pub no_zeros : (tables : List Table) (p : Place) → length tables ≤ p.table → zeros_in (schema_of tables) p ≡ []
+no_zeros tables p le = ap (λ o. zeros_of o p.key) (undeclared tables p.table le)
+
+pub ruleset declared = (rules_at, no_rules, zeros_at, no_zeros)

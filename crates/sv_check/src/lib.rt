@@ -2,6 +2,7 @@
 #![tactic(auto)]
 
 mod after;
+mod changes;
 mod initial;
 mod left;
 mod rules;
