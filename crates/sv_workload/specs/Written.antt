@@ -1,0 +1,41 @@
+-- What is written in the parts of a document: initial rows, settings, steps and sessions, with the names and numbers that stand there.
+use Rattle.std.specs.Prelude.{ℕ, List}
+use Rattle.sv_value.specs.declared.values.Val.{Val}
+use Rattle.sv_app.specs.declared.apps.Ident.{Ident}
+use Rattle.sv_app.specs.declared.requests.Arg.{Arg}
+
+pub record Row : Type 0 where
+  pub table : Ident
+  pub values : List Val
+
+pub data Setting : Type 0 where
+  Sites : Setting
+  Rows : Setting
+  Changes : Setting
+
+pub record Call : Type 0 where
+  pub txn : Ident
+  pub args : List Arg
+
+pub data Sent : Type 0 where
+  Blue : ℕ → ℕ → Sent
+  Red : ℕ → Sent
+
+pub data Line : Type 0 where
+  Ask : ℕ → Call → Line
+  Order : ℕ → Line
+  Deliver : ℕ → Sent → Line
+  Settle : ℕ → Line
+  Catch : ℕ → Line
+  Show : ℕ → Ident → Line
+  Cut : ℕ → Line
+
+pub record Session : Type 0 where
+  pub number : ℕ
+  pub calls : List Call
+
+-- the last part: none, a replay, or the sessions of a run
+pub data Last : Type 0 where
+  Absent : Last
+  Replay : List (Setting × ℕ) → List Line → Last
+  Run : List (Setting × ℕ) → List Session → Last
