@@ -11,7 +11,9 @@ mod readers;
 mod reading;
 mod tables;
 
+pub use faults::{Fault, Halt};
 pub use parts::{Order, Side};
+pub use readers::Reader;
 pub use reading::read_schema;
 
 #[cfg(test)]

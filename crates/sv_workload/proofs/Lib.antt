@@ -1,0 +1,4 @@
+pub mod ElementLaws
+pub mod ValueLaws
+pub mod JudgeLaws
+pub mod LoopLaws

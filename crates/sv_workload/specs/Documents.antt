@@ -3,9 +3,7 @@ use Rattle.std.specs.Prelude.{◌≡◌, ℕ, List, [], ◌∷◌, ◌++◌, len
 use Rattle.sv_value.specs.declared.packets.Packet.{Packet}
 use Rattle.sv_value.specs.declared.packets.Packet.TheVariants as packets
 use Rattle.sv_value.specs.declared.spots.Spot.{Spot}
-use Rattle.sv_value.specs.declared.values.Key.{Key}
 use Rattle.sv_lex.specs.declared.tokens.Token.{Token}
-use Rattle.sv_app.specs.declared.apps.Ident.{Ident}
 use Rattle.sv_app.specs.declared.refusals.Code.{Code}
 use Rattle.sv_app.specs.declared.refusals.Code.TheVariants.{BadInit}
 use Rattle.sv_app.specs.declared.refusals.Refusal.{Refusal}
@@ -13,11 +11,10 @@ use Rattle.sv_app.specs.declared.refusals.Stop.{Stop}
 use Rattle.sv_app.specs.declared.refusals.Stop.TheVariants.{Refused, NoMemory}
 use Rattle.sv_app.specs.declared.requests.InitRow.{InitRow}
 use Rattle.sv_app.specs.declared.requests.Request.{Request}
-use Rattle.sv_app.specs.Lookups.{place_of, table_of, table_names}
+use Rattle.sv_app.specs.Lookups.{place_of}
 use Rattle.sv_app.specs.Schema.{Declaration}
 use Rattle.sv_app.specs.Trees.{Transaction}
 use Rattle.sv_app.specs.TxnNumbers.{txn_names}
-use Rattle.sv_effect.specs.RunChanges.{key_in}
 use Rattle.sv_schema_reader.specs.Refused.{spot_of}
 use Rattle.sv_workload.specs.declared.parts.Parts.{Parts}
 use Rattle.sv_workload.specs.declared.parts.Step.{Step}
@@ -29,19 +26,12 @@ use Rattle.sv_workload.specs.Elements.{IsFirst, AreNone}
 use Rattle.sv_workload.specs.Grammar.{last_part}
 use Rattle.sv_workload.specs.InitRefused.{InitRefused, AreInit}
 use Rattle.sv_workload.specs.LastRefused.{LastRefused, given}
-use Rattle.sv_workload.specs.Written.{Row, Setting, Sites, Rows, Changes, Call, Sent, Blue, Red, Line, Ask, Order, Deliver, Settle, Catch, Show, Cut, Session, Last, Absent, Replay, Run}
+use Rattle.sv_workload.specs.Rows.{table_number, init_row}
+use Rattle.sv_workload.specs.declared.written.Row.{Row}
+use Rattle.sv_workload.specs.declared.written.Call.{Call}
+use Rattle.sv_workload.specs.Written.{Setting, Sites, Rows, Changes, Sent, Blue, Red, Line, Ask, Order, Deliver, Settle, Catch, Show, Cut, Session, Last, Absent, Replay, Run}
 
-abbrev pub key_of : Option Declaration → Row → Key
-key_of None r = key_in [] r.values
-key_of (Some table) r = key_in table.key r.values
-
-abbrev pub table_number : List Declaration → Ident → ℕ
-table_number schema ident = unwrap_or (place_of ident (table_names schema)) 0
-
--- what a written row, call, packet and step stand for
-abbrev pub init_row : List Declaration → Row → InitRow
-init_row schema r = record { table = table_number schema r.table; key = key_of (table_of schema r.table) r; values = r.values; spot = r.table.spot }
-
+-- what a written call, packet and step stand for
 abbrev pub request_of : List Transaction → Call → Request
 request_of txns c = record { txn = unwrap_or (place_of c.txn (txn_names txns)) 0; args = c.args }
 

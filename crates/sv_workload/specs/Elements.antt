@@ -18,13 +18,14 @@ pub record IsMisplaced {A : Type 0} (element : A → List Token → Type 0) (tok
   pub unfinished : (item : A) → element item front → ⊥
   pub closed : (token : Token) (others : List Token) → here ≡ token ∷ others → Begins element (front ++ token ∷ []) → ⊥
 
+-- which codes stand at which tokens
 abbrev pub Refusals : Type 1
 Refusals = Code → List Token → Type 0
 
--- A refusal in one of the elements that stand here one behind another. What is refused in an element may depend on the elements before it, the last one first.
+-- A refusal in one of the elements that stand here one behind another. What is refused in an element may depend on the elements before it.
 pub data Among {A : Type 0} (element : A → List Token → Type 0) (refused : List A → List Token → Refusals) : List A → List Token → Code → List Token → Type 0 where
   Here : (before : List A) (tokens : List Token) (code : Code) (here : List Token) → refused before tokens code here → Among element refused before tokens code here
-  Behind : (before : List A) (item : A) (front rest : List Token) (code : Code) (here : List Token) → element item front → Among element refused (item ∷ before) rest code here
+  Behind : (before : List A) (item : A) (front rest : List Token) (code : Code) (here : List Token) → element item front → Among element refused (before ++ item ∷ []) rest code here
       → Among element refused before (front ++ rest) code here
 
 -- the first of refusals: none stands before it, and none of a lower code at its place

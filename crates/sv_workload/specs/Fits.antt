@@ -11,7 +11,8 @@ use Rattle.sv_app.specs.Lookups.{is_named}
 use Rattle.sv_app.specs.Schema.{Declaration}
 use Rattle.sv_app.specs.Shaped.{AreOfTypes}
 use Rattle.sv_app.specs.Trees.{Transaction}
-use Rattle.sv_workload.specs.Written.{Row, Call}
+use Rattle.sv_workload.specs.declared.written.Row.{Row}
+use Rattle.sv_workload.specs.declared.written.Call.{Call}
 
 abbrev pub RowFits : Declaration → Row → Type 0
 RowFits table r = AreOfTypes (map (λ (c : Column). c.ty) table.columns) r.values

@@ -1,5 +1,5 @@
 -- Where initial rows are refused.
-use Rattle.std.specs.Prelude.{◌≡◌, ◌≤◌, ℕ, List, [], ◌∷◌, ◌++◌, length, true, Some, None, codes}
+use Rattle.std.specs.Prelude.{◌≡◌, ◌≤◌, ℕ, List, [], ◌∷◌, ◌++◌, length, Some, None, codes}
 use Rattle.std.specs.List.{Contains}
 use Rattle.sv_lex.specs.declared.marks.Mark.TheVariants.{Percents}
 use Rattle.sv_lex.specs.declared.tokens.Token.{Token}
@@ -7,14 +7,15 @@ use Rattle.sv_lex.specs.declared.tokens.TokenKind.TheVariants.{Name, Mark}
 use Rattle.sv_app.specs.declared.apps.Ident.{Ident}
 use Rattle.sv_app.specs.declared.refusals.Code.{Code}
 use Rattle.sv_app.specs.declared.refusals.Code.TheVariants.{Syntax, Unknown, Twice, Typing, Many}
-use Rattle.sv_app.specs.Lookups.{is_named, table_of}
+use Rattle.sv_app.specs.Lookups.{table_of}
 use Rattle.sv_app.specs.Schema.{Declaration}
-use Rattle.sv_effect.specs.RunChanges.{key_in}
+use Rattle.sv_effect.specs.TablesOfCut.{init_place}
 use Rattle.sv_schema_reader.specs.Grammar.{IsName}
 use Rattle.sv_workload.specs.Elements.{IsMisplaced, Refusals, Among}
 use Rattle.sv_workload.specs.Fits.{RowFits}
 use Rattle.sv_workload.specs.Grammar.{row, init_head, init_part}
-use Rattle.sv_workload.specs.Written.{Row}
+use Rattle.sv_workload.specs.Rows.{init_row}
+use Rattle.sv_workload.specs.declared.written.Row.{Row}
 
 -- a name stands here
 abbrev pub BeginsName : Ident → List Token → Type 0
@@ -26,26 +27,20 @@ pub record BeginsRow (tokens : List Token) : Type 0 where
   pub table : Ident
   pub is : BeginsName table tokens
 
--- a value for each column
-abbrev pub IsLong : Declaration → Row → Type 0
-IsLong table r = length r.values ≡ length table.columns
-
--- the row has the key of an earlier row of its table
-pub record IsRepeated (table : Declaration) (before : List Row) (r : Row) : Type 0 where
+-- an earlier row has the same table and the same key
+pub record IsRepeated (schema : List Declaration) (before : List Row) (r : Row) : Type 0 where
   pub other : Row
   pub earlier : Contains before other
-  pub same_table : is_named other.table r.table ≡ true
-  pub long : IsLong table other
-  pub same_key : key_in table.key other.values ≡ key_in table.key r.values
+  pub same : init_place (init_row schema other) ≡ init_place (init_row schema r)
 
--- a refusal in the row that begins here, behind these rows: the last one comes first
+-- a refusal in the row that begins here, behind these rows
 pub data RowRefused (schema : List Declaration) (before : List Row) (tokens : List Token) : Code → List Token → Type 0 where
   Misplaced : (here : List Token) → BeginsRow tokens → IsMisplaced row tokens here → RowRefused schema before tokens Syntax here
   NoTable : (table : Ident) → BeginsName table tokens → table_of schema table ≡ None → RowRefused schema before tokens Unknown tokens
   Unfit : (r : Row) (front rest : List Token) (table : Declaration) → tokens ≡ front ++ rest → row r front → table_of schema r.table ≡ Some table → (RowFits table r → ⊥)
       → RowRefused schema before tokens Typing tokens
-  Repeated : (r : Row) (front rest : List Token) (table : Declaration) → tokens ≡ front ++ rest → row r front → table_of schema r.table ≡ Some table → IsLong table r
-      → IsRepeated table before r → RowRefused schema before tokens Twice tokens
+  Repeated : (r : Row) (front rest : List Token) (table : Declaration) → tokens ≡ front ++ rest → row r front → table_of schema r.table ≡ Some table → length r.values ≡ length table.columns
+      → IsRepeated schema before r → RowRefused schema before tokens Twice tokens
   TooMany : BeginsRow tokens → 4096 ≤ length before → RowRefused schema before tokens Many tokens
 
 -- a refusal in the initial rows

@@ -5,4 +5,6 @@ pub mod Fits
 pub mod Grammar
 pub mod InitRefused
 pub mod LastRefused
+pub mod Reading
+pub mod Rows
 pub mod Written

@@ -1,21 +1,12 @@
--- What is written in the parts of a document: initial rows, settings, steps and sessions, with the names and numbers that stand there.
+-- What is written in the last part of a document: settings, steps and sessions, with the names and numbers that stand there.
 use Rattle.std.specs.Prelude.{ℕ, List}
-use Rattle.sv_value.specs.declared.values.Val.{Val}
 use Rattle.sv_app.specs.declared.apps.Ident.{Ident}
-use Rattle.sv_app.specs.declared.requests.Arg.{Arg}
-
-pub record Row : Type 0 where
-  pub table : Ident
-  pub values : List Val
+use Rattle.sv_workload.specs.declared.written.Call.{Call}
 
 pub data Setting : Type 0 where
   Sites : Setting
   Rows : Setting
   Changes : Setting
-
-pub record Call : Type 0 where
-  pub txn : Ident
-  pub args : List Arg
 
 pub data Sent : Type 0 where
   Blue : ℕ → ℕ → Sent

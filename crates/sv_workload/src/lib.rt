@@ -3,6 +3,9 @@
 
 mod parts;
 mod reading;
+mod values;
+mod written;
 
 pub use parts::{Parts, Step, Work};
 pub use reading::read_parts;
+pub use written::{Call, Row};
