@@ -2,3 +2,4 @@ pub mod ElementLaws
 pub mod ValueLaws
 pub mod JudgeLaws
 pub mod LoopLaws
+pub mod MarkLaws

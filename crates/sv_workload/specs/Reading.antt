@@ -1,13 +1,19 @@
 -- Reading the parts of a document from left to right: what some tokens begin with, and the tokens behind it.
-use Rattle.std.specs.Prelude.{ℕ, ℤ, pos, neg_ℤ, Bool, if◌then◌else◌, List, [], ◌∷◌, ◌++◌, Option, None, Ok, int_le, codes}
+use Rattle.std.specs.Prelude.{ℕ, ℤ, pos, neg_ℤ, Bool, if◌then◌else◌, List, [], ◌∷◌, ◌++◌, Option, Some, None, Ok, Err, int_le, codes}
 use Rattle.sv_value.specs.declared.values.Val.{Val}
 use Rattle.sv_value.specs.declared.values.Val.TheVariants as vals
 use Rattle.sv_lex.specs.declared.marks.Mark.TheVariants.{LeftParen, Semi, Minus, Percents}
 use Rattle.sv_lex.specs.declared.tokens.Token.{Token}
 use Rattle.sv_lex.specs.declared.tokens.TokenKind.{TokenKind}
 use Rattle.sv_lex.specs.declared.tokens.TokenKind.TheVariants.{Name, Number, Mark}
+use Rattle.sv_schema_reader.specs.declared.faults.Fault.{Fault}
 use Rattle.sv_schema_reader.specs.Reading.{Read, ◌>>=◌, is_next, given, token_at, kind_at, name_at, text_of, is_text, list_at}
 use Rattle.sv_workload.specs.declared.written.Row.{Row}
+
+-- a fault that is known before anything is read comes first
+abbrev pub settled : {A : Type 0} → Option Fault → Read A → Read A
+settled None read = read
+settled (Some fault) read = Err fault
 
 -- a number, which has no sign
 abbrev pub natural_of : TokenKind → Option ℤ
