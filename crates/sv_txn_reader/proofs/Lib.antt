@@ -1,0 +1,3 @@
+pub mod Laws
+pub mod LimitLaws
+pub mod PieceLaws

@@ -2,8 +2,12 @@
 //! that no rule allows or that passes a limit.
 #![tactic(auto)]
 
+mod beginnings;
 mod counts;
+mod graded;
+mod heads;
 mod reading;
+// mod terms;
 
 pub use counts::Counts;
 pub use reading::read_txns;
