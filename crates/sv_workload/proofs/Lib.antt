@@ -3,3 +3,4 @@ pub mod ValueLaws
 pub mod JudgeLaws
 pub mod LoopLaws
 pub mod MarkLaws
+pub mod RowLaws

@@ -14,14 +14,16 @@ use Rattle.sv_app.specs.declared.requests.Request.{Request}
 use Rattle.sv_app.specs.Lookups.{place_of}
 use Rattle.sv_app.specs.Schema.{Declaration}
 use Rattle.sv_app.specs.Trees.{Transaction}
+use Rattle.sv_app.specs.Valid.{Valid}
 use Rattle.sv_app.specs.TxnNumbers.{txn_names}
+use Rattle.sv_check.specs.Initial.{initial_tables}
+use Rattle.sv_check.specs.Initial as checked
 use Rattle.sv_schema_reader.specs.Refused.{spot_of}
 use Rattle.sv_workload.specs.declared.parts.Parts.{Parts}
 use Rattle.sv_workload.specs.declared.parts.Step.{Step}
 use Rattle.sv_workload.specs.declared.parts.Step.TheVariants as steps
 use Rattle.sv_workload.specs.declared.parts.Work.{Work}
 use Rattle.sv_workload.specs.declared.parts.Work.TheVariants as works
-use Rattle.sv_workload.specs.BadInit.{IsBadInit}
 use Rattle.sv_workload.specs.Elements.{IsFirst, AreNone}
 use Rattle.sv_workload.specs.Grammar.{last_part}
 use Rattle.sv_workload.specs.InitRefused.{InitRefused, AreInit}
@@ -73,10 +75,10 @@ pub record AreRows (schema : List Declaration) (tokens : List Token) (rows : Lis
   pub are : AreInit tokens rows rest
   pub right : AreNone (InitRefused schema tokens)
 
--- the same, and no row breaks an invariant
+-- the same, and their tables are valid
 pub record AreGood (schema : List Declaration) (tokens : List Token) (rows : List Row) (rest : List Token) : Type 0 where
   pub read : AreRows schema tokens rows rest
-  pub valid : (row number : ℕ) → IsBadInit schema (map (init_row schema) rows) row number → ⊥
+  pub valid : Valid schema (initial_tables (map (init_row schema) rows))
 
 -- the tokens are these parts, of which nothing is refused
 pub record AreParts (schema : List Declaration) (txns : List Transaction) (tokens : List Token) (parts : Parts) : Type 0 where
@@ -91,7 +93,7 @@ pub record AreParts (schema : List Declaration) (txns : List Transaction) (token
 pub data IsRefused (schema : List Declaration) (txns : List Transaction) (tokens : List Token) (end : Spot) (refusal : Refusal) : Type 0 where
   InInit : (code : Code) (here : List Token) → IsFirst (InitRefused schema tokens) code here → refusal ≡ record { spot = spot_of end here; code = code }
       → IsRefused schema txns tokens end refusal
-  ByInvariant : (rows : List Row) (rest : List Token) (row number : ℕ) (of : InitRow) → AreRows schema tokens rows rest → IsBadInit schema (map (init_row schema) rows) row number
+  ByInvariant : (rows : List Row) (rest : List Token) (row number : ℕ) (of : InitRow) → AreRows schema tokens rows rest → checked.IsFirst schema (map (init_row schema) rows) row number
       → slice_get (map (init_row schema) rows) row ≡ Some of → refusal ≡ record { spot = of.spot; code = BadInit number row } → IsRefused schema txns tokens end refusal
   InLast : (rows : List Row) (rest : List Token) (code : Code) (here : List Token) → AreGood schema tokens rows rest → IsFirst (LastRefused schema txns (length rows) rest) code here
       → refusal ≡ record { spot = spot_of end here; code = code } → IsRefused schema txns tokens end refusal

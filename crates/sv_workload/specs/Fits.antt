@@ -1,21 +1,20 @@
 -- Rows fit their tables, and calls their transactions: one value for each column or parameter, of its type.
-use Rattle.std.specs.Prelude.{◌≡◌, ℕ, List, [], ◌∷◌, length, map, Option}
+use Rattle.std.specs.Prelude.{List, [], ◌∷◌, Option}
 use Rattle.std.specs.List.{find}
 use Rattle.sv_app.specs.declared.apps.Ident.{Ident}
 use Rattle.sv_app.specs.declared.requests.Arg.{Arg}
 use Rattle.sv_app.specs.declared.requests.Arg.TheVariants as args
-use Rattle.sv_app.specs.declared.schemas.Column.{Column}
 use Rattle.sv_app.specs.declared.schemas.Ty.{Ty}
 use Rattle.sv_app.specs.declared.schemas.Ty.TheVariants as types
 use Rattle.sv_app.specs.Lookups.{is_named}
 use Rattle.sv_app.specs.Schema.{Declaration}
-use Rattle.sv_app.specs.Shaped.{AreOfTypes}
 use Rattle.sv_app.specs.Trees.{Transaction}
+use Rattle.sv_effect.specs.Initial.{ValuesFit}
 use Rattle.sv_workload.specs.declared.written.Row.{Row}
 use Rattle.sv_workload.specs.declared.written.Call.{Call}
 
 abbrev pub RowFits : Declaration → Row → Type 0
-RowFits table r = AreOfTypes (map (λ (c : Column). c.ty) table.columns) r.values
+RowFits table r = ValuesFit table.columns r.values
 
 abbrev pub ArgFits : Ty → Arg → Type 0
 ArgFits types.Int (args.Int n) = Unit {0}

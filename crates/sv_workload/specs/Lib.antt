@@ -1,4 +1,3 @@
-pub mod BadInit
 pub mod Documents
 pub mod Elements
 pub mod Fits

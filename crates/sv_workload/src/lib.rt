@@ -3,6 +3,7 @@
 
 mod parts;
 mod reading;
+mod rows;
 mod values;
 mod written;
 
