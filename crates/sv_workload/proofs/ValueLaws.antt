@@ -108,7 +108,7 @@ pub integer_some : (z : ℤ) (l : List Token) → IsInteger z l → l ≡ [] →
 integer_some _ _ (PlainInteger n l is) e = let bad : is.token ∷ [] ≡ [] = sym is.only ∙ e in absurd cc
 integer_some _ _ (Negated n l is) e = let bad : is.first.token ∷ is.back ≡ [] = sym (is.whole ∙ ap (λ x. x ++ is.back) is.first.only) ∙ e in absurd cc
 
-head_same : {x y : Token} {xs ys : List Token} → x ∷ xs ≡ y ∷ ys → x ≡ y
+pub head_same : {x y : Token} {xs ys : List Token} → x ∷ xs ≡ y ∷ ys → x ≡ y
 head_same e = cc
 
 pub integer_comma : (z : ℤ) (l : List Token) → IsInteger z l → (token : Token) (others : List Token) → l ≡ token ∷ others → token.kind ≡ Mark Comma → ⊥
