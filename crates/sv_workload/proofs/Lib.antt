@@ -4,3 +4,4 @@ pub mod JudgeLaws
 pub mod LoopLaws
 pub mod MarkLaws
 pub mod RowLaws
+pub mod InitLaws

@@ -1,5 +1,5 @@
 -- Reading the parts of a document from left to right: what some tokens begin with, and the tokens behind it.
-use Rattle.std.specs.Prelude.{ℕ, ℤ, pos, neg_ℤ, Bool, true, false, not, ◌&&◌, ◌==◌, nat_le, length, if◌then◌else◌, List, [], ◌∷◌, ◌++◌, Option, Some, None, Ok, Err, int_le, codes}
+use Rattle.std.specs.Prelude.{ℕ, ℤ, pos, neg_ℤ, Bool, true, false, not, ◌&&◌, ◌==◌, nat_le, length, drop, if◌then◌else◌, List, [], ◌∷◌, ◌++◌, Option, Some, None, Ok, Err, int_le, codes}
 use Rattle.std.specs.List.{list_any}
 use Rattle.sv_value.specs.declared.values.Val.{Val}
 use Rattle.sv_value.specs.declared.values.Val.TheVariants as vals
@@ -18,7 +18,7 @@ use Rattle.sv_app.specs.Lookups.{table_of}
 use Rattle.sv_app.specs.Schema.{Declaration}
 use Rattle.sv_effect.specs.TablesOfCut.{init_place, is_place}
 use Rattle.sv_schema_reader.specs.declared.faults.Fault.{Fault}
-use Rattle.sv_schema_reader.specs.Reading.{Read, ◌>>=◌, is_next, given, token_at, kind_at, name_at, name_of, is_name, text_of, is_text, list_at, turns_at}
+use Rattle.sv_schema_reader.specs.Reading.{Read, ◌>>=◌, is_kind, is_next, given, token_at, kind_at, name_at, name_of, is_name, text_of, is_text, list_at, turns_at}
 use Rattle.sv_workload.specs.declared.written.Row.{Row}
 use Rattle.sv_workload.specs.Rows.{init_row}
 
@@ -112,3 +112,12 @@ row_step schema rows tokens = row_from schema rows tokens >>= λ r rest. Ok (row
 -- all rows that stand here
 abbrev pub rows_from : List Declaration → List InitRow → List Token → Read (List InitRow)
 rows_from schema = turns_at is_name (row_step schema) (λ rows tokens. Ok (rows, tokens))
+
+-- "%%" "init" stands here
+abbrev pub begins_init : List Token → Bool
+begins_init (mark ∷ word ∷ others) = is_kind (Mark Percents) mark.kind && is_kind (Name (codes "init")) word.kind
+begins_init _ = false
+
+-- the initial rows that stand here, if any
+unfoldable pub init_from : List Declaration → List Token → Read (List InitRow)
+init_from schema tokens = if begins_init tokens then rows_from schema [] (drop 2 tokens) else Ok ([], tokens)
