@@ -1,3 +1,6 @@
+pub mod ChainLaws
+pub mod FactorLaws
 pub mod Laws
+pub mod LeafLaws
 pub mod LimitLaws
 pub mod PieceLaws
