@@ -3,6 +3,7 @@ pub mod FactorLaws
 pub mod Laws
 pub mod LeafLaws
 pub mod LimitLaws
+pub mod LiteralLaws
 pub mod OperatorLaws
 pub mod PieceLaws
 pub mod TermLaws
