@@ -1,4 +1,5 @@
 pub mod ChainLaws
+pub mod ExprLaws
 pub mod FactorLaws
 pub mod Laws
 pub mod LeafLaws
@@ -7,3 +8,4 @@ pub mod LiteralLaws
 pub mod OperatorLaws
 pub mod PieceLaws
 pub mod TermLaws
+pub mod TestLaws
