@@ -1,6 +1,6 @@
 -- Paths of a unit: its statements along a list of choices, one for each comparison in its `if` conditions in order of evaluation, and the types of the
 -- symbols that are brought in on the way.
-use Rattle.std.specs.Prelude.{ℕ, zero, suc, ◌==◌, ◌&&◌, ◌||◌, not, if◌then◌else◌, Bool, true, false, List, [], ◌∷◌, ◌++◌, length, Option, Some, None, slice_get}
+use Rattle.std.specs.Prelude.{ℕ, suc, ◌==◌, ◌&&◌, ◌||◌, not, if◌then◌else◌, Bool, true, false, List, [], ◌∷◌, ◌++◌, length, Option, Some, None, slice_get}
 use Rattle.std.specs.List.{list_any}
 use Rattle.sv_app.specs.declared.apps.Ident.{Ident}
 use Rattle.sv_app.specs.declared.instances.Source.{Source}
@@ -10,11 +10,11 @@ use Rattle.sv_app.specs.declared.schemas.Merge.{Merge}
 use Rattle.sv_app.specs.declared.schemas.Merge.TheVariants as merges
 use Rattle.sv_app.specs.declared.schemas.Ty.{Ty}
 use Rattle.sv_app.specs.declared.schemas.Ty.TheVariants as types
-use Rattle.sv_app.specs.Kinds.{is_grow_only}
 use Rattle.sv_app.specs.Schema.{Declaration}
 use Rattle.sv_app.specs.Slots.{item, with_item}
 use Rattle.sv_app.specs.Symbols.{is_known, is_factor, is_key_column, block_assigns, known_after}
 use Rattle.sv_app.specs.Trees.{Term, Number, Words, Variable, Field, Old, Minus, Sum, Difference, Product, Test, Compare, Negation, Both, Either, Command, Declare, Assign, Fetch, Choose, ForRows, ForEach, Insert, Update, Remove, Abort, Reply, Block, Finish, Then, Transaction}
+use Rattle.sv_app.specs.Kinds.{is_grow_only}
 
 -- the types of variables, and the tables of row variables, by the numbers of names
 pub record Names : Type 0 where
@@ -25,13 +25,12 @@ abbrev pub columns_at : Option Declaration → List Column
 columns_at None = []
 columns_at (Some table) = table.columns
 
-abbrev pub type_in : List Column → ℕ → Ty
-type_in [] c = types.Int
-type_in (column ∷ columns) zero = column.ty
-type_in (column ∷ columns) (suc c) = type_in columns c
+abbrev pub type_in : Option Column → Ty
+type_in None = types.Int
+type_in (Some column) = column.ty
 
 abbrev pub column_type : List Declaration → ℕ → ℕ → Ty
-column_type schema table c = type_in (columns_at (slice_get schema table)) c
+column_type schema table c = type_in (slice_get (columns_at (slice_get schema table)) c)
 
 -- the type of an expression; in an update of a table `old` is a row of it
 abbrev pub type_of : List Declaration → Names → ℕ → Term → Ty
@@ -84,10 +83,10 @@ abbrev pub put : Ty → Way → Way
 put ty w = record w { symbols = w.symbols ++ ty ∷ [] }
 
 abbrev pub brought : Source → Ty → Way → Way
-brought source ty w = if is_known source w.known then w else put ty (record w { known = source ∷ w.known })
+brought source ty w = if is_known source w.known then w else put ty (record w { known = w.known ++ source ∷ [] })
 
 abbrev pub brought_old : ℕ → Ty → Way → Way
-brought_old c ty w = if list_any (λ d. c == d) w.known_old then w else put ty (record w { known_old = c ∷ w.known_old })
+brought_old c ty w = if list_any (λ d. c == d) w.known_old then w else put ty (record w { known_old = w.known_old ++ c ∷ [] })
 
 abbrev pub term_way : List Declaration → Names → ℕ → Term → Way → Way
 term_way schema names table (Number n at) w = w
@@ -123,10 +122,9 @@ test_way schema names (Negation t) w = then_tested (test_way schema names t w) (
 test_way schema names (Both t q) w = then_tested (test_way schema names t w) (λ h y. then_tested (test_way schema names q y) (λ k z. Tells (h && k) z))
 test_way schema names (Either t q) w = then_tested (test_way schema names t w) (λ h y. then_tested (test_way schema names q y) (λ k z. Tells (h || k) z))
 
-abbrev pub merge_at : List Column → ℕ → Merge
-merge_at [] c = merges.Plain
-merge_at (column ∷ columns) zero = column.merge
-merge_at (column ∷ columns) (suc c) = merge_at columns c
+abbrev pub merge_in : Option Column → Merge
+merge_in None = merges.Plain
+merge_in (Some column) = column.merge
 
 -- after each set of a counter its value now
 abbrev pub now_way : Merge → ℕ → Way → Way
@@ -135,7 +133,7 @@ now_way _ c w = w
 
 abbrev pub sets_way : List Declaration → Names → ℕ → List (Ident × Term) → Way → Way
 sets_way schema names table [] w = w
-sets_way schema names table (set ∷ sets) w = sets_way schema names table sets (now_way (merge_at (columns_at (slice_get schema table)) set.0.num) set.0.num (term_way schema names table set.1 w))
+sets_way schema names table (set ∷ sets) w = sets_way schema names table sets (now_way (merge_in (slice_get (columns_at (slice_get schema table)) set.0.num)) set.0.num (term_way schema names table set.1 w))
 
 -- the kept values of the counters of an insert, in column order; in a grow-only table nothing is kept
 abbrev pub kept_way : Merge → Way → Way
@@ -165,7 +163,7 @@ on_side (Tells true w) f g = f w
 on_side (Tells false w) f g = g w
 
 abbrev pub formed : ℕ → Way → Way
-formed x w = record w { known = sources.Variable x ∷ w.known }
+formed x w = record w { known = w.known ++ sources.Variable x ∷ [] }
 
 -- a loop only gives the variables that its body assigns new sources
 abbrev pub after_loop : Block → Way → Path

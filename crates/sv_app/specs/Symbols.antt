@@ -4,8 +4,6 @@ use Rattle.std.specs.List.{list_any}
 use Rattle.sv_app.specs.declared.apps.Ident.{Ident}
 use Rattle.sv_app.specs.declared.instances.Source.{Source}
 use Rattle.sv_app.specs.declared.instances.Source.TheVariants as sources
-use Rattle.sv_app.specs.declared.schemas.Kind.{Kind}
-use Rattle.sv_app.specs.declared.schemas.Kind.TheVariants as kinds
 use Rattle.sv_app.specs.Trees.{Term, Number, Words, Variable, Field, Old, Minus, Sum, Difference, Product, Command, Declare, Assign, Fetch, Choose, ForRows, ForEach, Insert, Update, Remove, Abort, Reply, Block, Finish, Then}
 
 abbrev pub is_same_source : Source → Source → Bool

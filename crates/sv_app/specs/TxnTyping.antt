@@ -175,28 +175,42 @@ behind at (Remove t k) = at
 behind at (Abort n) = at
 behind at (Reply e) = at
 
+-- what is wrong in a statement, the blocks in it left out
+abbrev pub command_faults : Scope → Command → List Refusal
+command_faults at (Declare x e) = term_faults at e
+command_faults at (Assign x e) = assignment_faults at (meaning_of at x) x e ++ term_faults at e
+command_faults at (Fetch r t k) = at_table (table_of at.schema t) t (λ d. value_list_faults at d d.key k t) ++ all_term_faults at k
+command_faults at (Choose c ys ns) = test_faults at c
+command_faults at (ForRows r t c body) = no_table at.schema t ++ condition_faults (knowing at r (Row t)) c
+command_faults at (ForEach x l body) = walk_faults (meaning_of at l) l
+command_faults at (Insert t vs) =
+    at_table (table_of at.schema t) t (λ d. kind_faults d acts.Insert t ++ value_list_faults at d (column_names d) vs t) ++ all_term_faults at vs
+command_faults at (Update t k ss) =
+    at_table (table_of at.schema t) t (λ d. kind_faults d acts.Update t ++ value_list_faults at d d.key k t ++ sets_faults at t d ss)
+    ++ all_term_faults at k ++ repeats (map (λ s. s.0) ss) ++ flat_map (λ s. term_faults (updating at t) s.1) ss
+command_faults at (Remove t k) =
+    at_table (table_of at.schema t) t (λ d. kind_faults d acts.Remove t ++ value_list_faults at d d.key k t) ++ all_term_faults at k
+command_faults at (Abort n) = []
+command_faults at (Reply e) = term_faults at e
+
+-- and in the blocks: the variable of a loop may be used in its body
 abbrev mutual
-  pub command_faults : Scope → Command → List Refusal
-  command_faults at (Declare x e) = term_faults at e
-  command_faults at (Assign x e) = assignment_faults at (meaning_of at x) x e ++ term_faults at e
-  command_faults at (Fetch r t k) = at_table (table_of at.schema t) t (λ d. value_list_faults at d d.key k t) ++ all_term_faults at k
-  command_faults at (Choose c ys ns) = test_faults at c ++ block_faults at ys ++ block_faults at ns
-  command_faults at (ForRows r t c body) =
-      no_table at.schema t ++ condition_faults (knowing at r (Row t)) c ++ block_faults (knowing at r (Row t)) body
-  command_faults at (ForEach x l body) = walk_faults (meaning_of at l) l ++ block_faults (knowing at x Element) body
-  command_faults at (Insert t vs) =
-      at_table (table_of at.schema t) t (λ d. kind_faults d acts.Insert t ++ value_list_faults at d (column_names d) vs t) ++ all_term_faults at vs
-  command_faults at (Update t k ss) =
-      at_table (table_of at.schema t) t (λ d. kind_faults d acts.Update t ++ value_list_faults at d d.key k t ++ sets_faults at t d ss)
-      ++ all_term_faults at k ++ repeats (map (λ s. s.0) ss) ++ all_term_faults (updating at t) (map (λ s. s.1) ss)
-  command_faults at (Remove t k) =
-      at_table (table_of at.schema t) t (λ d. kind_faults d acts.Remove t ++ value_list_faults at d d.key k t) ++ all_term_faults at k
-  command_faults at (Abort n) = []
-  command_faults at (Reply e) = term_faults at e
+  pub inner_faults : Scope → Command → List Refusal
+  inner_faults at (Declare x e) = []
+  inner_faults at (Assign x e) = []
+  inner_faults at (Fetch r t k) = []
+  inner_faults at (Choose c ys ns) = block_faults at ys ++ block_faults at ns
+  inner_faults at (ForRows r t c body) = block_faults (knowing at r (Row t)) body
+  inner_faults at (ForEach x l body) = block_faults (knowing at x Element) body
+  inner_faults at (Insert t vs) = []
+  inner_faults at (Update t k ss) = []
+  inner_faults at (Remove t k) = []
+  inner_faults at (Abort n) = []
+  inner_faults at (Reply e) = []
 
   pub block_faults : Scope → Block → List Refusal
   block_faults at Finish = []
-  block_faults at (Then c rest) = command_faults at c ++ block_faults (behind at c) rest
+  block_faults at (Then c rest) = command_faults at c ++ inner_faults at c ++ block_faults (behind at c) rest
 
 -- a name declared a second time in the transaction, at the second
 abbrev pub txn_faults : List Declaration → Transaction → List Refusal

@@ -5,6 +5,7 @@ pub mod Commutes
 pub mod Cut
 pub mod Fits
 pub mod Follows
+pub mod Initial
 pub mod Laws
 pub mod Needs
 pub mod Reads
@@ -13,6 +14,7 @@ pub mod RowsFit
 pub mod Run
 pub mod RunChanges
 pub mod RunValues
+pub mod Safe
 pub mod Sequences
 pub mod StampedTables
 pub mod Suits

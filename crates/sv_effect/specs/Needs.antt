@@ -1,7 +1,6 @@
 -- What a run needs besides its changes: kept rows for updates and removes, and present rows for references to grow-only tables.
 use Rattle.std.specs.Prelude.{ℕ, ◌==◌, ◌&&◌, ◌||◌, not, if◌then◌else◌, Bool, true, false, List, [], ◌∷◌, ◌++◌, Option, Some, None, slice_get}
 use Rattle.std.specs.List.{list_any, flat_map}
-use Rattle.std.specs.Ordering.{is_eq}
 use Rattle.sv_value.specs.declared.values.Key.{Key}
 use Rattle.sv_value.specs.declared.values.Val.{Val}
 use Rattle.sv_app.specs.declared.acts.Act.{Act}
@@ -10,16 +9,13 @@ use Rattle.sv_app.specs.declared.apps.Ident.{Ident}
 use Rattle.sv_app.specs.declared.places.Place.{Place}
 use Rattle.sv_app.specs.Schema.{Rule, Bound, OneOf, Different, Refers, Invariant, Declaration}
 use Rattle.sv_app.specs.Kinds.{is_grow_only}
-use Rattle.sv_app.specs.Tables.{place_cmp}
 use Rattle.sv_effect.specs.declared.ops.Need.{Need}
 use Rattle.sv_effect.specs.declared.ops.Need.TheVariants as needs
 use Rattle.sv_effect.specs.declared.ops.Write.{Write}
 use Rattle.sv_effect.specs.declared.ops.Write.TheVariants.{Delta, Set}
 use Rattle.sv_effect.specs.RowChange.{key_values}
 use Rattle.sv_effect.specs.RunChanges.{Effect}
-
-abbrev pub is_same_place : Place → Place → Bool
-is_same_place p q = is_eq (place_cmp p q)
+use Rattle.sv_effect.specs.TablesOfCut.{is_place}
 
 abbrev pub is_insert : Act → Bool
 is_insert Insert = true
@@ -28,7 +24,7 @@ is_insert Remove = false
 
 -- whether one of the changes inserts the row
 abbrev pub is_inserted : Place → List Effect → Bool
-is_inserted p es = list_any (λ e. is_insert e.act && is_same_place p e.place) es
+is_inserted p es = list_any (λ e. is_insert e.act && is_place p e.place) es
 
 abbrev pub need_of : Bool → Need → List Need
 need_of holds need = if holds then need ∷ [] else []
@@ -73,8 +69,8 @@ needs_from schema all earlier [] = []
 needs_from schema all earlier (e ∷ es) = kept_need earlier e ++ present_needs schema all (slice_get schema e.place.table) e ++ needs_from schema all (earlier ++ e ∷ []) es
 
 abbrev pub is_same_need : Need → Need → Bool
-is_same_need (needs.Kept t k) (needs.Kept u l) = is_same_place (record { table = t; key = k }) (record { table = u; key = l })
-is_same_need (needs.Present t k) (needs.Present u l) = is_same_place (record { table = t; key = k }) (record { table = u; key = l })
+is_same_need (needs.Kept t k) (needs.Kept u l) = is_place (record { table = t; key = k }) (record { table = u; key = l })
+is_same_need (needs.Present t k) (needs.Present u l) = is_place (record { table = t; key = k }) (record { table = u; key = l })
 is_same_need _ _ = false
 
 -- each once, where it comes first

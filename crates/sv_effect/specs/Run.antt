@@ -68,7 +68,7 @@ abbrev pub with_value : ℕ → Val → Scope → Scope
 with_value x v s = record s { values = with_item nothing x v s.values }
 
 abbrev pub is_formed : ℕ → Progress → Progress
-is_formed x p = record p { known = sources.Variable x ∷ p.known }
+is_formed x p = record p { known = p.known ++ sources.Variable x ∷ [] }
 
 abbrev pub assigned : ℕ → Val → Stand → Stand
 assigned x v st = with_scope st (with_progress (with_value x v st.scope) (is_formed x st.scope.progress))

@@ -1,5 +1,5 @@
 -- What one statement of a run changes: the writes of an update and of an insert, and the row after them.
-use Rattle.std.specs.Prelude.{ℕ, zero, suc, ℤ, pos, ◌+ℤ◌, ◌-ℤ◌, ◌==◌, ◌||◌, if◌then◌else◌, Bool, true, false, List, [], ◌∷◌, ◌++◌, Option, Some, None, map}
+use Rattle.std.specs.Prelude.{ℕ, suc, ℤ, pos, ◌+ℤ◌, ◌-ℤ◌, ◌==◌, ◌||◌, if◌then◌else◌, Bool, true, false, List, [], ◌∷◌, ◌++◌, Option, Some, None, map, slice_get}
 use Rattle.sv_value.specs.declared.values.Key.{Key}
 use Rattle.sv_value.specs.declared.values.Val.{Val}
 use Rattle.sv_value.specs.declared.values.Val.TheVariants.{Int, Text as IsText}
@@ -15,7 +15,6 @@ use Rattle.sv_app.specs.declared.schemas.Merge.{Merge}
 use Rattle.sv_app.specs.declared.schemas.Merge.TheVariants as merges
 use Rattle.sv_app.specs.Schema.{Declaration}
 use Rattle.sv_app.specs.Slots.{item, with_item}
-use Rattle.sv_app.specs.Kinds.{is_grow_only}
 use Rattle.sv_app.specs.Symbols.{is_key_column}
 use Rattle.sv_app.specs.Tables.{Row}
 use Rattle.sv_app.specs.Trees.{Term}
@@ -23,6 +22,8 @@ use Rattle.sv_effect.specs.declared.ops.Write.{Write}
 use Rattle.sv_effect.specs.declared.ops.Write.TheVariants.{Delta, Set}
 use Rattle.sv_effect.specs.declared.ops.RowEffect.{RowEffect}
 use Rattle.sv_effect.specs.Applied.{place_of}
+use Rattle.sv_app.specs.Kinds.{is_grow_only}
+use Rattle.sv_effect.specs.BareTables.{got_of}
 use Rattle.sv_effect.specs.RowChange.{zero_values}
 use Rattle.sv_effect.specs.RunValues.{nothing, Progress, put, Scope, with_progress, narrow, Evaluated, Leaves, Gives, then_value, val_of, column, read_old, value_of}
 use Rattle.sv_effect.specs.TablesOfCut.{number_in}
@@ -50,10 +51,6 @@ key_of (v ∷ vs) = record { first = v; second = second_of vs }
 abbrev pub key_in : List Ident → List Val → Key
 key_in key vs = key_of (map (λ name. item nothing vs name.num) key)
 
-abbrev pub got_of : Val → Got
-got_of (Int n) = gots.Num n
-got_of (IsText t) = gots.Text t
-
 -- a value after a write
 abbrev pub written_got : Write → Got → Got
 written_got (Set v) old = got_of v
@@ -80,10 +77,12 @@ abbrev pub set_of : Merge → ℕ → Val → Scope → Evaluated Write
 set_of merges.NumDelta c v s = then_value (read_old c s) (delta_to v)
 set_of _ c v s = Gives (Set v) s
 
+abbrev pub merge_in : Option Column → Merge
+merge_in None = merges.Plain
+merge_in (Some column) = column.merge
+
 abbrev pub merge_of : List Column → ℕ → Merge
-merge_of [] c = merges.Plain
-merge_of (column ∷ columns) zero = column.merge
-merge_of (column ∷ columns) (suc c) = merge_of columns c
+merge_of columns c = merge_in (slice_get columns c)
 
 -- the sets in order
 abbrev pub sets_made : List Column → List (Ident × Term) → Scope → Evaluated (List (ℕ × Write))

@@ -43,10 +43,10 @@ abbrev pub put : Val → Progress → Progress
 put v p = record p { tape = p.tape ++ v ∷ [] }
 
 abbrev pub brought : Source → Val → Progress → Progress
-brought source v p = if is_known source p.known then p else put v (record p { known = source ∷ p.known })
+brought source v p = if is_known source p.known then p else put v (record p { known = p.known ++ source ∷ [] })
 
 abbrev pub brought_old : ℕ → Val → Progress → Progress
-brought_old c v p = if list_any (λ d. c == d) p.known_old then p else put v (record p { known_old = c ∷ p.known_old })
+brought_old c v p = if list_any (λ d. c == d) p.known_old then p else put v (record p { known_old = p.known_old ++ c ∷ [] })
 
 abbrev pub chosen : Bool → Progress → Progress
 chosen holds p = record p { choices = p.choices ++ holds ∷ [] }

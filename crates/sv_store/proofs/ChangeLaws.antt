@@ -11,7 +11,7 @@ use Rattle.sv_effect.specs.RowChange.{changed, is_annotated, zero_row}
 use Rattle.sv_effect.specs.Applied.{place_of}
 use Rattle.sv_store.specs.declared.rows.KeptRow.{KeptRow}
 use Rattle.sv_store.specs.Stored.{Stored, stored_in, Keeps, IsAt, IsGapFor, with_row}
-use Rattle.sv_store.specs.Takes.{standing, left_by}
+use Rattle.sv_store.specs.Standing.{standing, left_by}
 use Rattle.sv_store.proofs.RowLaws.{read_row}
 use Rattle.sv_store.proofs.StoreLaws.{there, not_there, stored_set, stored_insert, keeps_set}
 

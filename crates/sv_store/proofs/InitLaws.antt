@@ -9,22 +9,26 @@ use Rattle.sv_app.specs.declared.places.Place.{Place}
 use Rattle.sv_app.specs.declared.requests.InitRow.{InitRow}
 use Rattle.sv_app.specs.declared.schemas.Column.{Column}
 use Rattle.sv_app.specs.declared.schemas.Table.{Table}
+use Rattle.sv_app.specs.Accepted.{AcceptedSchema}
 use Rattle.sv_app.specs.Schema.{Declaration, declaration_of, schema_of}
+use Rattle.sv_app.proofs.AcceptedLaws.{narrow, all_at}
 use Rattle.sv_app.specs.Tables.{place_cmp}
 use Rattle.sv_app.proofs.PlaceLaws.{place_total, exact_places}
+use Rattle.sv_effect.specs.declared.cells.Cell.{Cell}
+use Rattle.sv_effect.specs.declared.cells.Cell.TheVariants.{Count, Last, Plain}
 use Rattle.sv_effect.specs.StampedTables.{StampedRow}
 use Rattle.sv_effect.specs.RowChange.{cells_from, row_from}
 use Rattle.sv_effect.specs.Applied.{columns_of, columns_in, annotated_in, zeros_in}
-use Rattle.sv_effect.specs.Fits.{CellsFit}
-use Rattle.sv_effect.specs.Commutes.{TablesFit}
+use Rattle.sv_effect.specs.Fits.{CellsFit, IsNarrow, CountsFit}
+use Rattle.sv_effect.specs.RowsFit.{RowIsOf, TablesAreOf}
 use Rattle.sv_effect.specs.Cut.{empty}
 use Rattle.sv_effect.specs.TablesOfCut.{is_place, init_place, initial, values_or, is_there, row_at, named_by, all_to, changes_at, tables_held}
 use Rattle.sv_effect.proofs.PlaceListLaws.{among, among-append}
 use Rattle.sv_effect.proofs.KeptLaws.{from_fits}
+use Rattle.sv_effect.proofs.SourceLaws.{inserted_is_of}
 use Rattle.sv_effect.proofs.TableLaws.{get-tables_by, row-bare}
 use Rattle.sv_store.specs.Initial.{ValuesFit, InitFits, AreDistinct}
 use Rattle.sv_store.specs.Stored.{Stored, HasRoom, room_after, with_row}
-use Rattle.sv_store.specs.Takes.{IsNarrowSchema}
 use Rattle.sv_store.proofs.TakeLaws.{declared_as, is_declared}
 
 -- the row at a place, of what stands there from the start
@@ -114,10 +118,14 @@ init_free schema init i x distinct lt is =
     ∙ ap (λ b. if b then Some (start_row schema (init_place x) (initial (init_place x) (take i init))) else None)
     (ap (λ y. among (init_place y) (map init_place (take i init))) is ∙ new_place init i x distinct lt)
 
+same_table : (a b : Declaration) → Some a ≡ Some b → a ≡ b
+same_table a b e = cc
+
 -- a store that has so many of the initial rows, and room for the others and for more
 pub record Started (schema : List Declaration) (init : List InitRow) (room i : ℕ) (s : Stored) : Type 0 where
   pub tables : s.tables ≡ tables_held schema (take i init) empty
   pub left : s.room + i ≡ length init + room
+  pub of : TablesAreOf schema s.tables
 
 pub init_room : (schema : List Declaration) (init : List InitRow) (room i : ℕ) (s : Stored) (x : InitRow) → AreDistinct init → i < length init → x ≡ get_or init i x
     → Started schema init room i s → HasRoom (get s.tables (init_place x)) s.room
@@ -125,10 +133,16 @@ init_room schema init room i s x distinct lt is started =
     let some : 1 ≤ s.room = omega (arith, lt, started.left) in
     subst (λ o. HasRoom o s.room) (sym (ap (λ t. get t (init_place x)) started.tables ∙ init_free schema init i x distinct lt is)) some
 
+cells_fit : (columns : List Column) (vs : List Val) → ValuesFit columns vs → CellsFit columns (cells_from columns vs)
+cells_fit [] [] fits = tt
+cells_fit [] (v ∷ vs) fits = absurd fits
+cells_fit (column ∷ columns) [] fits = absurd fits
+cells_fit (column ∷ columns) (v ∷ vs) fits = (from_fits column v column.merge refl fits.0, cells_fit columns vs fits.1)
+
 pub init_more : (schema : List Declaration) (init : List InitRow) (room i : ℕ) (s new : Stored) (x : InitRow) (table : Declaration) (p : Place) (row : StampedRow) → AreDistinct init → i < length init
-    → x ≡ get_or init i x → slice_get schema x.table ≡ Some table → Started schema init room i s → p ≡ init_place x → row ≡ row_from table.columns x.values true → new ≡ with_row s p row
+    → x ≡ get_or init i x → slice_get schema x.table ≡ Some table → Started schema init room i s → p ≡ init_place x → row ≡ row_from table.columns x.values true → CountsFit row.cells → InitFits schema x → new ≡ with_row s p row
     → Started schema init room (i + 1) new
-init_more schema init room i s new x table p row distinct lt is declared started place start made = record { tables = tables; left = left }
+init_more schema init room i s new x table p row distinct lt is declared started place start counts fit made = record { tables = tables; left = left; of = of }
   where
     list : take (i + 1) init ≡ take i init ++ x ∷ []
     list = take_more init i x lt ∙ ap (λ y. take i init ++ y ∷ []) (sym is)
@@ -151,6 +165,15 @@ init_more schema init room i s new x table p row distinct lt is declared started
     fewer : new.room ≡ s.room - 1
     fewer = ap (λ s. s.room) made ∙ ap (λ o. room_after o s.room) none
 
+    cells : CellsFit fit.table.columns row.cells
+    cells = subst (λ r. CellsFit fit.table.columns r.cells) (sym (start ∙ ap (λ t. row_from t.columns x.values true) (same_table table fit.table (sym declared ∙ fit.declared)))) (cells_fit fit.table.columns x.values fit.values)
+
+    row_of_app : RowIsOf schema p row
+    row_of_app = subst (λ q. RowIsOf schema q row) (sym place) (record { key = record { table = fit.table; declared = fit.declared; fits = fit.key }; cells = cells; counts = counts })
+
+    of : TablesAreOf schema new.tables
+    of = subst (TablesAreOf schema) (sym (ap (λ s. s.tables) made)) (inserted_is_of schema s.tables p row started.of row_of_app)
+
     left : (new.room + (i + 1)) ≡ (length init + room)
     left = omega (arith, fewer, lt, started.left)
 
@@ -159,9 +182,6 @@ length-values [] [] fits = refl
 length-values [] (v ∷ vs) fits = absurd fits
 length-values (column ∷ columns) [] fits = absurd fits
 length-values (column ∷ columns) (v ∷ vs) fits = ap suc (length-values columns vs fits.1)
-
-same_table : (a b : Declaration) → Some a ≡ Some b → a ≡ b
-same_table a b e = cc
 
 -- what the next row needs
 pub record Ready (tables : List Table) (x : InitRow) (table : Table) : Type 0 where
@@ -172,11 +192,11 @@ pub record Ready (tables : List Table) (x : InitRow) (table : Table) : Type 0 wh
 pub init_bound : (tables : List Table) (init : List InitRow) (i : ℕ) (x : InitRow) → All (InitFits (schema_of tables)) init → i < length init → x ≡ get_or init i x → x.table < length tables
 init_bound tables init i x fits lt is = let fit : InitFits (schema_of tables) x = subst (InitFits (schema_of tables)) (sym is) (fits i x lt) in is_declared tables x.table fit.table fit.declared
 
-pub init_ready : (tables : List Table) (init : List InitRow) (i : ℕ) (x : InitRow) (table : Table) → IsNarrowSchema (schema_of tables) → All (InitFits (schema_of tables)) init → i < length init
+pub init_ready : (tables : List Table) (init : List InitRow) (i : ℕ) (x : InitRow) (table : Table) → AcceptedSchema (schema_of tables) → All (InitFits (schema_of tables)) init → i < length init
     → x ≡ get_or init i x → table ≡ get_or tables x.table table → Ready tables x table
-init_ready tables init i x table narrow fits lt is at = record {
+init_ready tables init i x table accepted fits lt is at = record {
   declared = declared;
-  few = narrow x.table (declaration_of table) declared;
+  few = narrow (schema_of tables) accepted x.table (declaration_of table) declared;
   full = length-values fit.table.columns x.values fit.values ∙ ap (λ t. length t.columns) (same_table fit.table (declaration_of table) (sym fit.declared ∙ declared));
 }
   where
@@ -186,40 +206,9 @@ init_ready tables init i x table narrow fits lt is at = record {
     declared : slice_get (schema_of tables) x.table ≡ Some (declaration_of table)
     declared = declared_as tables x.table table (init_bound tables init i x fits lt is) at
 
-cells_fit : (columns : List Column) (vs : List Val) → ValuesFit columns vs → CellsFit columns (cells_from columns vs)
-cells_fit [] [] fits = tt
-cells_fit [] (v ∷ vs) fits = absurd fits
-cells_fit (column ∷ columns) [] fits = absurd fits
-cells_fit (column ∷ columns) (v ∷ vs) fits = (from_fits column v column.merge refl fits.0, cells_fit columns vs fits.1)
+-- the store that nothing was put into
+pub none_are_of : (schema : List Declaration) → AcceptedSchema schema → TablesAreOf schema empty_tables
+none_are_of schema accepted = record { accepted = accepted; rows = λ place row at. let e : ◌≡◌ {A = Option StampedRow} None (Some row) = sym (get-empty place_cmp place) ∙ at in absurd cc }
 
-initial_fits : (schema : List Declaration) (init : List InitRow) (q : Place) → All (InitFits schema) init → among q (map init_place init) ≡ true
-    → CellsFit (columns_in schema q) (cells_from (columns_in schema q) (values_or (zeros_in schema q) (initial q init)))
-initial_fits schema [] q fits there = absurd cc
-initial_fits schema (x ∷ init) q fits there = split (is_place q (init_place x)) refl there (initial_fits schema init q (λ i d lt. fits (suc i) d (omega (arith, lt))))
-  where
-    fit : InitFits schema x
-    fit = fits 0 x (omega arith)
-
-    split : (b : Bool) → is_place q (init_place x) ≡ b → (b || among q (map init_place init)) ≡ true
-        → (among q (map init_place init) ≡ true → CellsFit (columns_in schema q) (cells_from (columns_in schema q) (values_or (zeros_in schema q) (initial q init))))
-        → CellsFit (columns_in schema q) (cells_from (columns_in schema q) (values_or (zeros_in schema q) (if b then Some x.values else initial q init)))
-    split true here some ih =
-        let is : q ≡ init_place x = tells_apart exact_places q (init_place x) here in
-        subst (λ p. CellsFit (columns_in schema p) (cells_from (columns_in schema p) x.values)) (sym is)
-        (subst (λ o. CellsFit (columns_of o) (cells_from (columns_of o) x.values)) (sym fit.declared) (cells_fit fit.table.columns x.values fit.values))
-    split false here some ih = ih some
-
-same_row : (a b : StampedRow) → Some a ≡ Some b → a ≡ b
-same_row a b e = cc
-
--- the initial tables are of the schema
-pub init_fit : (schema : List Declaration) (init : List InitRow) → All (InitFits schema) init → TablesFit schema (tables_held schema init empty)
-init_fit schema init fits q row is = split (among q (map init_place init)) refl (sym (get-init schema init q) ∙ is)
-  where
-    split : (b : Bool) → among q (map init_place init) ≡ b → (if b then Some (start_row schema q (initial q init)) else None) ≡ Some row → CellsFit (columns_in schema q) row.cells
-    split true there e = subst (λ r. CellsFit (columns_in schema q) r.cells) (same_row (start_row schema q (initial q init)) row e) (initial_fits schema init q fits there)
-    split false there e = absurd cc
-
-pub started_fit : (schema : List Declaration) (init : List InitRow) (room i : ℕ) (s : Stored) → All (InitFits schema) init → Started schema init room i s → length init ≤ i → TablesFit schema s.tables
-started_fit schema init room i s fits started le =
-    subst (TablesFit schema) (sym (started.tables ∙ ap (λ l. tables_held schema l empty) (take_all i init le))) (init_fit schema init fits)
+pub init_fit : (schema : List Declaration) (init : List InitRow) (i : ℕ) (x : InitRow) → All (InitFits schema) init → i < length init → x ≡ get_or init i x → InitFits schema x
+init_fit schema init i x fits lt is = subst (InitFits schema) (sym is) (fits i x lt)

@@ -6,8 +6,9 @@ use Rattle.std.specs.FinMap as map_of
 use Rattle.std.proofs.lemmas.List.{length-set, length-map}
 use Rattle.sv_app.specs.declared.places.Place.{Place}
 use Rattle.sv_effect.specs.StampedTables.{row_of}
+use Rattle.sv_effect.specs.BareTables.{how_many}
 use Rattle.sv_store.specs.declared.rows.KeptRow.{KeptRow}
-use Rattle.sv_store.specs.Stored.{Stored, tables_in, stored_in, AreRising, Keeps, IsAt, IsGapFor, HasRoom, room_after, with_row, entry_of, how_many}
+use Rattle.sv_store.specs.Stored.{Stored, tables_in, stored_in, AreRising, Keeps, IsAt, IsGapFor, HasRoom, room_after, with_row, entry_of}
 use Rattle.sv_store.proofs.RowLaws.{get-tables_in, get-tables_gap, entries-tables_in, tables_set, tables_insert, rising_set, rising_insert}
 
 pub length-insert : (rows : List KeptRow) (at : ℕ) (new : KeptRow) → at ≤ length rows → length (insert rows at new) ≡ suc (length rows)

@@ -9,17 +9,19 @@ use Rattle.sv_app.specs.declared.acts.Act.{Act}
 use Rattle.sv_app.specs.declared.acts.Act.TheVariants.{Insert, Update, Remove}
 use Rattle.sv_app.specs.declared.schemas.Table.{Table}
 use Rattle.sv_app.specs.Schema.{Declaration, declaration_of, schema_of}
+use Rattle.sv_app.proofs.AcceptedLaws.{narrow, no_lists}
 use Rattle.sv_effect.specs.declared.ops.RowEffect.{RowEffect}
 use Rattle.sv_effect.specs.declared.ops.Op.{Op}
 use Rattle.sv_effect.specs.StampedTables.{StampedRow, StampedTables}
 use Rattle.sv_effect.specs.RowChange.{changed, row_from, zero_row}
 use Rattle.sv_effect.specs.Applied.{Change, place_of, changes_from, columns_of, annotation_of, zeros_of, with_change_at, with_changes}
 use Rattle.sv_effect.specs.Fits.{FitsSchema, AllFit, ChangeFits, CellsFit, CountsFit}
-use Rattle.sv_effect.specs.Commutes.{TablesFit}
-use Rattle.sv_effect.specs.Laws.{HasNoLists}
-use Rattle.sv_effect.proofs.KeptLaws.{zero_fits, change_kept}
+use Rattle.sv_effect.specs.RowsFit.{TablesAreOf}
+use Rattle.sv_effect.specs.Takes.{row_left, KeepsBounds, IsFound, FindsRows, as_insert, inserts}
+use Rattle.sv_effect.proofs.KeptLaws.{zero_fits}
+use Rattle.sv_effect.proofs.SourceLaws.{fit_rows, change_is_of}
 use Rattle.sv_store.specs.Stored.{Stored, HasRoom, room_after, with_row}
-use Rattle.sv_store.specs.Takes.{standing, left_by, IsNarrowSchema, row_left, KeepsBounds, IsFound, FindsRows, as_insert, inserts}
+use Rattle.sv_store.specs.Standing.{standing, left_by}
 
 abbrev pub stamp_at : Op → ℕ → Stamp
 stamp_at op n = record { time = op.time; site = op.site; place = n }
@@ -29,7 +31,7 @@ change_at op n e = record { value = e; stamp = stamp_at op n }
 
 -- what the changes from a number on need
 pub record Takes (schema : List Declaration) (op : Op) (n : ℕ) (es : List RowEffect) (s : Stored) : Type 0 where
-  pub rows : TablesFit schema s.tables
+  pub rows : TablesAreOf schema s.tables
   pub fits : AllFit schema es
   pub found : FindsRows schema (changes_from op n es) s.tables
   pub counts : KeepsBounds schema (changes_from op n es) s.tables
@@ -64,10 +66,18 @@ rest_room Update None room n found le = absurd found
 rest_room Remove None room n found le = absurd found
 rest_room act (Some row) room n found le = omega (arith, le)
 
-pub first_needs : (schema : List Declaration) (op : Op) (n : ℕ) (e : RowEffect) (es : List RowEffect) (s : Stored) (table : Declaration) → IsNarrowSchema schema → HasNoLists schema
-    → slice_get schema e.table ≡ Some table → Takes schema op n (e ∷ es) s → Needs table (stamp_at op n) e s
-first_needs schema op n e es s table narrow none_lists declared takes = record {
-  few = narrow e.table table declared;
+-- a change takes no more room than its insert
+spent : (act : Act) (o : Option StampedRow) (room : ℕ) → IsFound act o → room ≤ room_after o room + as_insert act
+spent Insert None room found = omega arith
+spent Update None room found = absurd found
+spent Remove None room found = absurd found
+spent Insert (Some row) room found = omega arith
+spent Update (Some row) room found = omega arith
+spent Remove (Some row) room found = omega arith
+
+pub first_needs : (schema : List Declaration) (op : Op) (n : ℕ) (e : RowEffect) (es : List RowEffect) (s : Stored) (table : Declaration) → slice_get schema e.table ≡ Some table → Takes schema op n (e ∷ es) s → Needs table (stamp_at op n) e s
+first_needs schema op n e es s table declared takes = record {
+  few = narrow schema takes.rows.accepted e.table table declared;
   change = change;
   row = start (get s.tables (place_of e)) refl;
   counts = subst (λ row. CountsFit row.cells) (by_table schema table op n e s.tables declared) takes.counts.0;
@@ -78,8 +88,8 @@ first_needs schema op n e es s table narrow none_lists declared takes = record {
     change = subst (λ t. ChangeFits t e) (same_table takes.fits.0.table table (sym takes.fits.0.declared ∙ declared)) takes.fits.0.fits
 
     start : (o : Option StampedRow) → get s.tables (place_of e) ≡ o → CellsFit table.columns (unwrap_or o (zero_row table e.key)).cells
-    start None is = zero_fits table e.key change.key (λ j column at. none_lists e.table j table column declared at)
-    start (Some x) is = subst (λ cs. CellsFit cs x.cells) (ap columns_of declared) (takes.rows (place_of e) x is)
+    start None is = zero_fits table e.key change.key (λ j column at. no_lists schema takes.rows.accepted e.table j table column declared at)
+    start (Some x) is = subst (λ cs. CellsFit cs x.cells) (ap columns_of declared) (fit_rows schema s.tables takes.rows (place_of e) x is)
 
 -- the store after the first change
 abbrev pub after_first : Declaration → Op → ℕ → RowEffect → Stored → Stored
@@ -89,10 +99,9 @@ first_made : (schema : List Declaration) (op : Op) (n : ℕ) (e : RowEffect) (s 
     → with_change_at schema (place_of e) (change_at op n e) s.tables ≡ (after_first table op n e s).tables
 first_made schema op n e s table declared = ap (map_of.insert s.tables (place_of e)) (by_table schema table op n e s.tables declared)
 
-pub rest_takes : (schema : List Declaration) (op : Op) (n : ℕ) (e : RowEffect) (es : List RowEffect) (s : Stored) (table : Declaration) → HasNoLists schema
-    → slice_get schema e.table ≡ Some table → Takes schema op n (e ∷ es) s → Takes schema op (suc n) es (after_first table op n e s)
-rest_takes schema op n e es s table none_lists declared takes = record {
-  rows = subst (TablesFit schema) made (change_kept schema (change_at op n e) s.tables none_lists takes.fits.0 takes.rows);
+pub rest_takes : (schema : List Declaration) (op : Op) (n : ℕ) (e : RowEffect) (es : List RowEffect) (s : Stored) (table : Declaration) → slice_get schema e.table ≡ Some table → Takes schema op n (e ∷ es) s → Takes schema op (suc n) es (after_first table op n e s)
+rest_takes schema op n e es s table declared takes = record {
+  rows = subst (TablesAreOf schema) made (change_is_of schema (change_at op n e) s.tables takes.fits.0 takes.counts.0 takes.rows);
   fits = takes.fits.1;
   found = subst (FindsRows schema (changes_from op (suc n) es)) made takes.found.1;
   counts = subst (KeepsBounds schema (changes_from op (suc n) es)) made takes.counts.1;
@@ -129,22 +138,20 @@ turn_bound tables op i e s lt is takes = let fits : FitsSchema (schema_of tables
 pub declared_as : (tables : List Table) (n : ℕ) (table : Table) → n < length tables → table ≡ get_or tables n table → slice_get (schema_of tables) n ≡ Some (declaration_of table)
 declared_as tables n table lt is = declared_at tables n table lt ∙ ap (λ t. Some (declaration_of t)) (sym is)
 
-pub turn_needs : (tables : List Table) (op : Op) (i : ℕ) (e : RowEffect) (s : Stored) (table : Table) → IsNarrowSchema (schema_of tables) → HasNoLists (schema_of tables)
-    → i < length op.effects → e ≡ get_or op.effects i e → table ≡ get_or tables e.table table → Takes (schema_of tables) op i (drop i op.effects) s
+pub turn_needs : (tables : List Table) (op : Op) (i : ℕ) (e : RowEffect) (s : Stored) (table : Table) → i < length op.effects → e ≡ get_or op.effects i e → table ≡ get_or tables e.table table → Takes (schema_of tables) op i (drop i op.effects) s
     → Needs (declaration_of table) (stamp_at op i) e s
-turn_needs tables op i e s table narrow none_lists lt is at takes =
-    first_needs (schema_of tables) op i e (drop (i + 1) op.effects) s (declaration_of table) narrow none_lists
+turn_needs tables op i e s table lt is at takes =
+    first_needs (schema_of tables) op i e (drop (i + 1) op.effects) s (declaration_of table)
     (declared_as tables e.table table (turn_bound tables op i e s lt is takes) at) (takes_at (schema_of tables) op i e s lt is takes)
 
 -- the store that the turn leaves takes the rest, which makes the same of it
-pub turn_takes : (tables : List Table) (op : Op) (i : ℕ) (e : RowEffect) (s new : Stored) (table : Table) → HasNoLists (schema_of tables)
-    → i < length op.effects → e ≡ get_or op.effects i e → table ≡ get_or tables e.table table → Takes (schema_of tables) op i (drop i op.effects) s
+pub turn_takes : (tables : List Table) (op : Op) (i : ℕ) (e : RowEffect) (s new : Stored) (table : Table) → i < length op.effects → e ≡ get_or op.effects i e → table ≡ get_or tables e.table table → Takes (schema_of tables) op i (drop i op.effects) s
     → new ≡ after_first (declaration_of table) op i e s → Takes (schema_of tables) op (i + 1) (drop (i + 1) op.effects) new
-turn_takes tables op i e s new table none_lists lt is at takes made =
+turn_takes tables op i e s new table lt is at takes made =
     let n : suc i ≡ (i + 1) = omega arith in
     subst (λ k. Takes (schema_of tables) op k (drop (i + 1) op.effects) new) n
     (subst (Takes (schema_of tables) op (suc i) (drop (i + 1) op.effects)) (sym made)
-    (rest_takes (schema_of tables) op i e (drop (i + 1) op.effects) s (declaration_of table) none_lists
+    (rest_takes (schema_of tables) op i e (drop (i + 1) op.effects) s (declaration_of table)
     (declared_as tables e.table table (turn_bound tables op i e s lt is takes) at) (takes_at (schema_of tables) op i e s lt is takes)))
 
 pub turn_made : (tables : List Table) (op : Op) (i : ℕ) (e : RowEffect) (s new : Stored) (table : Table) → i < length op.effects → e ≡ get_or op.effects i e
@@ -155,3 +162,14 @@ turn_made tables op i e s new table lt is at takes made =
     (λ k. with_changes (schema_of tables) (changes_from op (n k) (drop (i + 1) op.effects)) (made k).tables)
     ∙ sym (rest_made (schema_of tables) op i e (drop (i + 1) op.effects) s (declaration_of table) (declared_as tables e.table table (turn_bound tables op i e s lt is takes) at))
     ∙ ap (λ es. with_changes (schema_of tables) (changes_from op i es) s.tables) (sym (drop_more op.effects i e lt ∙ ap (λ x. x ∷ drop (i + 1) op.effects) (sym is)))
+
+-- the room that was there at first, but for what the changes so far may have taken
+pub turn_spent : (tables : List Table) (op : Op) (i first all : ℕ) (e : RowEffect) (s new : Stored) (table : Table) → i < length op.effects → e ≡ get_or op.effects i e
+    → Takes (schema_of tables) op i (drop i op.effects) s → new ≡ after_first (declaration_of table) op i e s
+    → first + inserts (drop i op.effects) ≤ s.room + all → first + inserts (drop (i + 1) op.effects) ≤ new.room + all
+turn_spent tables op i first all e s new table lt is takes made le =
+    let took : s.room ≤ room_after (get s.tables (place_of e)) s.room + as_insert e.act = spent e.act (get s.tables (place_of e)) s.room (takes_at (schema_of tables) op i e s lt is takes).found.0 in
+    let room : new.room ≡ room_after (get s.tables (place_of e)) s.room = ap (λ x. x.room) made in
+    let front : inserts (drop i op.effects) ≡ as_insert e.act + inserts (drop (i + 1) op.effects) =
+    ap inserts (drop_more op.effects i e lt) ∙ ap (λ x. as_insert x.act + inserts (drop (i + 1) op.effects)) (sym is) in
+    omega (arith, le, took, room, front)

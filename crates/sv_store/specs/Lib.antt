@@ -1,5 +1,6 @@
 pub mod CodedTables
 pub mod Initial
 pub mod Named
+pub mod Rest
+pub mod Standing
 pub mod Stored
-pub mod Takes

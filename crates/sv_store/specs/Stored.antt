@@ -2,7 +2,7 @@
 use Rattle.std.specs.Prelude.{◌≡◌, ℕ, ◌-◌, ◌<◌, ◌≤◌, ◌^◌, List, length, map, slice_get, Option, Some, None, refl}
 use Rattle.std.specs.Coded.{Coded, code_by, coded×, coded_ℕ}
 use Rattle.std.specs.declared.cmp.Ordering.TheVariants.{Less, Greater}
-use Rattle.std.specs.FinMap.{get, insert, entries, from_entries}
+use Rattle.std.specs.FinMap.{get, insert, from_entries}
 use Rattle.sv_app.specs.declared.places.Place.{Place}
 use Rattle.sv_app.specs.Tables.{place_cmp}
 use Rattle.sv_effect.specs.StampedTables.{StampedRow, StampedTables, row_of}
@@ -59,7 +59,3 @@ HasRoom (Some row) room = Unit {0}
 -- a row is kept, in place of the one that stood at its place
 abbrev pub with_row : Stored → Place → StampedRow → Stored
 with_row s p row = record { tables = insert s.tables p row; room = room_after (get s.tables p) s.room }
-
--- how many rows are kept
-abbrev pub how_many : StampedTables → ℕ
-how_many t = length (entries t)

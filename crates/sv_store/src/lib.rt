@@ -2,9 +2,8 @@
 #![tactic(auto)]
 
 mod rows;
+mod sources;
 mod stores;
-#[cfg(test)]
-mod tests;
 
 pub use rows::KeptRow;
 pub use stores::ListStore;

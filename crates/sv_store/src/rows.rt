@@ -1,7 +1,8 @@
-ghost use Rattle.std.specs.Prelude.{◌≡◌, ◌≤◌, true, length, slice_get};
+ghost use Rattle.std.specs.Prelude.{◌≡◌, ◌≤◌, ◌∷◌, [], true, length, slice_get};
 ghost use Rattle.sv_app.specs.Schema.{declaration_of};
 ghost use Rattle.sv_effect.specs.StampedTables.{row_of, zero_stamp};
 ghost use Rattle.sv_effect.specs.RowChange.{cell_from, cells_from, zero_of, key_values, from_key, row_from, zero_row};
+ghost use Rattle.sv_effect.specs.Fits.{CountsFit};
 ghost use Rattle.sv_effect.specs.TablesOfCut.{init_place};
 ghost use Rattle.sv_store.specs.Named.{is_named, zero_cells};
 
@@ -30,7 +31,8 @@ fn zero_stamp() -> Stamp
 
 /// The cell of a column that has a value from the start.
 fn cell_from(merge: Merge, val: Val) -> Cell
-    ensures { result ≡ cell_from merge val }
+    ensures value { result ≡ cell_from merge val }
+    ensures count { CountsFit (result ∷ []) }
 {
     match (merge, val) {
         (Merge::Plain, val) => Cell::Plain(val),
@@ -47,7 +49,8 @@ fn cell_from(merge: Merge, val: Val) -> Cell
 fn cells_from(columns: &[Column], values: &[Val]) -> ArrayVec<Cell, 16>
     requires few { length columns.now ≤ 16 }
     requires full { length values.now ≡ length columns.now }
-    ensures { result.items ≡ cells_from columns.now values.now }
+    ensures cells { result.items ≡ cells_from columns.now values.now }
+    ensures counts { CountsFit result.items }
 {
     let mut cells = ArrayVec::new();
     for (number, column) in columns.iter().enumerate() {
@@ -129,6 +132,7 @@ pub(crate) fn init_row(table: &Table, row: &InitRow) -> KeptRow
     requires full { length row.now.values ≡ length (declaration_of table.now).columns }
     ensures place { result.place ≡ init_place row.now }
     ensures row { row_of result.row ≡ row_from (declaration_of table.now).columns row.now.values true }
+    ensures counts { CountsFit result.row.cells.items }
 {
     KeptRow {
         place: Place {

@@ -86,10 +86,10 @@ limits_of tokens rest declarations read = subst KeepsLimits (sym read.declares) 
 
 -- what accepts says of the tables is said of their number
 pub accepted_as : (result : Result App Stop) (declarations : List Declaration) → IfOk result (λ app. schema_of app.tables.items ≡ numbered declarations)
-    → ((refusal : Refusal) → result ≡ Err (Refused refusal) → IsUnaccepted declarations refusal) → IsAccepted declarations → IsAcceptedAs result (length declarations)
+    → ((refusal : Refusal) → result ≡ Err (Refused refusal) → IsUnaccepted declarations [] refusal) → IsAccepted declarations [] → IsAcceptedAs result (length declarations)
 accepted_as (Ok app) declarations tables refused accepted =
     sym (length-map app.tables.items declaration_of) ∙ ap (λ (l : List Declaration). length l) tables ∙ length-map declarations (numbered_table declarations)
-accepted_as (Err (Refused refusal)) declarations tables refused accepted = never_both declarations refusal accepted (refused refusal refl)
+accepted_as (Err (Refused refusal)) declarations tables refused accepted = never_both declarations [] refusal accepted (refused refusal refl)
 accepted_as (Err NoMemory) declarations tables refused accepted = tt
 
 -- where nothing refuses early, no token is left
@@ -114,7 +114,7 @@ pub rest_is : (tokens : List Token) (at : ℕ) → take (length tokens - at) (dr
 rest_is tokens at = ap (λ n. take n (drop at tokens)) (sym (length-drop at tokens)) ∙ take-length (drop at tokens)
 
 pub accepted_tokens : (result : Result App Stop) (tokens : List Token) (at : ℕ) (rest : List Token) (declarations : List Declaration) → rest ≡ drop at tokens → ReadAt tokens at declarations
-    → IfOk result (λ app. early_refusal declarations rest ≡ None) → IfOk result (λ app. IsAccepted declarations) → IfOk result (λ app. length app.tables.items ≡ length declarations)
+    → IfOk result (λ app. early_refusal declarations rest ≡ None) → IfOk result (λ app. IsAccepted declarations []) → IfOk result (λ app. length app.tables.items ≡ length declarations)
     → IfOk result (λ app. (x : List Declaration) × AreAccepted tokens x × (length app.tables.items ≡ length x))
 accepted_tokens (Ok app) tokens at rest declarations is read plain accepted count =
     let none : rest ≡ [] = none_behind declarations rest plain in
@@ -139,12 +139,12 @@ read_answer tokens declarations Answers all read =
     subst (λ d. Answers d (length tokens)) (sym read.declares) (subst (Answers (all_declared read.tables)) same (all tokens [] read.tables (sym (append-nil tokens)) read.is read.small read.ends))
 
 pub all_tokens : (result : Result App Stop) (tokens : List Token) (at : ℕ) (rest : List Token) (found declarations : List Declaration) → rest ≡ drop at tokens → ReadsAll tokens (λ d place. (found ≡ d) × (at ≡ place))
-    → (early_refusal found rest ≡ None → IsAccepted found → IsAcceptedAs result (length found)) → AreAccepted tokens declarations → IsAcceptedAs result (length declarations)
+    → (early_refusal found rest ≡ None → IsAccepted found [] → IsAcceptedAs result (length found)) → AreAccepted tokens declarations → IsAcceptedAs result (length declarations)
 all_tokens result tokens at rest found declarations is all accepts a =
     let answer = read_answer tokens declarations (λ d place. (found ≡ d) × (at ≡ place)) all a.read in
     let none : rest ≡ [] = is ∙ ap (λ n. drop n tokens) answer.1 ∙ drop-length tokens in
     let early : early_refusal found rest ≡ None = (λ i. early_refusal (answer.0 i) (none i)) ∙ a.plain in
-    subst (λ (d : List Declaration). IsAcceptedAs result (length d)) answer.0 (accepts early (subst IsAccepted (sym answer.0) a.accepted))
+    subst (λ (d : List Declaration). IsAcceptedAs result (length d)) answer.0 (accepts early (subst (λ (d : List Declaration). IsAccepted d []) (sym answer.0) a.accepted))
 
 pub no_memory : (stop : Stop) (tokens : List Token) (declarations : List Declaration) → ReadsAll tokens (IsAnswer (Err stop)) → AreAccepted tokens declarations
     → IsAcceptedAs (Err stop) (length declarations)

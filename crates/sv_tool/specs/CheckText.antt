@@ -49,12 +49,12 @@ early_refusal schema [] = option_map (λ table. record { spot = table.name.spot;
 pub record AreAccepted (tokens : List Token) (schema : List Declaration) : Type 0 where
   pub read : IsRead tokens [] schema
   pub plain : early_refusal schema [] ≡ None
-  pub accepted : IsAccepted schema
+  pub accepted : IsAccepted schema []
 
 -- why tables are refused that were read, with these tokens behind them
 pub data IsLater (schema : List Declaration) (rest : List Token) (refusal : Refusal) : Type 0 where
   Early : early_refusal schema rest ≡ Some refusal → IsLater schema rest refusal
-  Unaccepted : early_refusal schema rest ≡ None → IsUnaccepted schema refusal → IsLater schema rest refusal
+  Unaccepted : early_refusal schema rest ≡ None → IsUnaccepted schema [] refusal → IsLater schema rest refusal
 
 -- why tokens are refused, where the document ends there
 pub data IsRefusal (tokens : List Token) (end : Spot) (refusal : Refusal) : Type 0 where

@@ -63,10 +63,10 @@ fn early_refusal(tables: &[Table], rest: &[Token]) -> Option<Refusal>
 fn accept_read(alloc: Global, tables: Vec<Table>, rest: &[Token]) -> Result<App, Stop>
     requires { KeepsLimits (schema_of tables.items) }
     ensures plain { IfOk result (λ app. early_refusal (schema_of tables.items) rest.now ≡ None) }
-    ensures accepted { IfOk result (λ app. IsAccepted (schema_of tables.items)) }
+    ensures accepted { IfOk result (λ app. IsAccepted (schema_of tables.items) []) }
     ensures count { IfOk result (λ app. length app.tables.items ≡ length (schema_of tables.items)) }
     ensures refused { (refusal : RefusalValue) → result ≡ Err (Refused refusal) → IsLater (schema_of tables.items) rest.now refusal }
-    ensures all { early_refusal (schema_of tables.items) rest.now ≡ None → IsAccepted (schema_of tables.items) → IsAcceptedAs result (length (schema_of tables.items)) }
+    ensures all { early_refusal (schema_of tables.items) rest.now ≡ None → IsAccepted (schema_of tables.items) [] → IsAcceptedAs result (length (schema_of tables.items)) }
 {
     let refusal = early_refusal(&tables, rest);
     match refusal {

@@ -2,5 +2,8 @@ pub mod AcceptanceLaws
 pub mod NotedLaws
 pub mod PlaceLaws
 pub mod CycleLaws
+pub mod DeclaredLaws
 pub mod FirstLaws
 pub mod LookupLaws
+pub mod StatementLaws
+pub mod ValueLaws

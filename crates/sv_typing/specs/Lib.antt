@@ -1,3 +1,4 @@
 pub mod Laws
 pub mod Noted
 pub mod Reached
+pub mod Standing

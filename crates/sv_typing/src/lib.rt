@@ -2,8 +2,11 @@
 #![tactic(auto)]
 
 mod acceptance;
+mod changes;
 mod columns;
 mod cycles;
+mod declared;
+mod expressions;
 mod faults;
 mod fills;
 mod firsts;
@@ -13,10 +16,14 @@ mod lookups;
 mod named;
 mod numbers;
 mod references;
+mod scopes;
+mod statements;
+mod terms;
 #[cfg(test)]
 mod tests;
 mod txns;
 mod types;
+mod values;
 
 pub use acceptance::accept;
 pub use laws::{columns_by_place, never_both, refused_once, tables_by_place};

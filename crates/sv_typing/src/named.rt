@@ -7,7 +7,7 @@ ghost use Rattle.sv_app.specs.Typing.{repeats, fault_if};
 ghost use Rattle.sv_typing.specs.Noted.{noted};
 
 use crate::firsts::First;
-use sv_app::{Code, Column, Ident, Table};
+use sv_app::{Code, Column, Declared, Expr, Ident, Table, Txn};
 
 /// What has a name where it stands.
 pub trait Named {
@@ -39,6 +39,30 @@ impl Named for Table {
 
     fn ident(&self) -> Ident {
         self.name
+    }
+}
+
+impl Named for Declared {
+    ghost ident = { λ declared. declared.name };
+
+    fn ident(&self) -> Ident {
+        self.name
+    }
+}
+
+impl Named for Txn {
+    ghost ident = { λ txn. txn.name };
+
+    fn ident(&self) -> Ident {
+        self.name
+    }
+}
+
+impl Named for (Ident, Expr) {
+    ghost ident = { λ set. set.0 };
+
+    fn ident(&self) -> Ident {
+        self.0
     }
 }
 

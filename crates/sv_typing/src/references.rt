@@ -73,7 +73,7 @@ fn note_referring(
 }
 
 /// Whether there is no table of that name.
-fn is_no_table(tables: &[Table], parent: &Ident) -> bool
+pub fn is_no_table(tables: &[Table], parent: &Ident) -> bool
     ensures { result ≡ is_none (table_meant (schema_of tables.now) parent.now) }
 {
     match table_of(tables, parent) {
@@ -102,7 +102,7 @@ fn note_referred(first: &mut First, tables: &[Table], parent: &Ident)
 }
 
 /// Whether it is a table without that column.
-fn has_no_column(tables: &[Table], parent: &Ident, target: &Ident) -> bool
+pub fn has_no_column(tables: &[Table], parent: &Ident, target: &Ident) -> bool
     ensures { result ≡ holds_of (table_meant (schema_of tables.now) parent.now) (λ other. is_none (column_meant other target.now)) }
 {
     match table_of(tables, parent) {

@@ -7,7 +7,7 @@ use Rattle.sv_effect.specs.RowChange.{changed, is_annotated, zero_row}
 use Rattle.sv_effect.specs.Applied.{place_of}
 use Rattle.sv_effect.specs.Fits.{CellsFit, CountsFit}
 use Rattle.sv_store.specs.Stored.{stored_in, Keeps, IsAt, IsGapFor}
-use Rattle.sv_store.specs.Takes.{standing}
+use Rattle.sv_store.specs.Standing.{standing}
 use Rattle.sv_store.proofs.StoreLaws.{fits_in, keeps_insert, space_set, space_insert}
 use Rattle.sv_store.proofs.ChangeLaws.{kept_standing, new_standing, changed_set, keeps_changed, changed_insert}
 use Rattle.sv_store.proofs.stores.ListStore.change.Goals as goal

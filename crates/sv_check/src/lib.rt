@@ -1,0 +1,10 @@
+//! Invariants of initial rows, and of the rows after changes.
+#![tactic(auto)]
+
+mod after;
+mod initial;
+mod verdicts;
+
+pub use after::check_after;
+pub use initial::check_all;
+pub use verdicts::Verdict;

@@ -1,0 +1,4 @@
+pub mod LookLaws
+pub mod NeedLaws
+pub mod SlotLaws
+pub mod WriteLaws

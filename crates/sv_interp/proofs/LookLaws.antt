@@ -1,0 +1,37 @@
+-- A row that the run wrote is found before the one behind it; and a row that was told of is the one that stands there.
+use Rattle.std.proofs.Common.{◌≡◌, ◌≢◌, Bool, true, false, cond, List, [], ◌∷◌, Option, Some, None, refl, sym, ap, subst, ◌∙◌}
+use Rattle.std.specs.FinMap.{get, insert, get-insert}
+use Rattle.sv_value.specs.declared.values.Key.{Key}
+use Rattle.sv_app.specs.declared.places.Place.{Place}
+use Rattle.sv_app.specs.Tables.{place_cmp, Row, Tables}
+use Rattle.sv_app.proofs.PlaceLaws.{place_total}
+use Rattle.sv_effect.specs.Agrees.{place_at, seen_in, seen_at}
+use Rattle.sv_effect.specs.Follows.{Follows}
+use Rattle.sv_effect.specs.Reads.{SeenValue, ReadValue}
+use Rattle.sv_effect.specs.TablesOfCut.{is_place}
+use Rattle.sv_effect.proofs.FollowLaws.{quiet, so}
+use Rattle.sv_interp.specs.declared.states.OwnRow.{OwnRow}
+use Rattle.sv_interp.specs.Machine.{over, own_row, own_rows, hides, lent, told_row}
+
+pub own_here : (e : Place × OwnRow) (es : List (Place × OwnRow)) (t : Tables) (p : Place) → is_place p e.0 ≡ true → get (over (e ∷ es) t) p ≡ Some (own_row e.1)
+own_here e es t p h = get-insert place_total (over es t) e.0 (own_row e.1) p ∙ ap (λ b. cond b (Some (own_row e.1)) (get (over es t) p)) h
+
+pub own_past : (e : Place × OwnRow) (es : List (Place × OwnRow)) (t : Tables) (p : Place) → is_place p e.0 ≡ false → get (over (e ∷ es) t) p ≡ get (over es t) p
+own_past e es t p h = get-insert place_total (over es t) e.0 (own_row e.1) p ∙ ap (λ b. cond b (Some (own_row e.1)) (get (over es t) p)) h
+
+told_back : (o : Option Row) → told_row (seen_in o) ≡ o
+told_back None = refl
+told_back (Some row) = refl
+
+-- the run wrote the row itself
+pub look_own : (o n : Option Tables) (a b : Option (List ReadValue)) (own : List (Place × OwnRow)) (p : Place) (found : Row) (row : Option OwnRow)
+    → n ≡ o → b ≡ a → ((t : Tables) → get (over own t) p ≡ Some found) → own_rows row ≡ Some found → Follows o n a b (λ t. get (over own t) p ≡ own_rows row)
+look_own o n a b own p found row same stands h e = quiet o n a b _ same stands (λ t. h t ∙ sym e)
+
+-- the row behind is asked for
+pub look_behind : (o n : Option Tables) (a b : Option (List ReadValue)) (own : List (Place × OwnRow)) (p : Place) (seen : SeenValue) (row : Option OwnRow)
+    → Follows o n a b (λ t. seen_at t (place_at p.table p.key) ≡ seen) → ((t : Tables) → get (over own t) p ≡ get t p) → own_rows row ≡ told_row seen
+    → Follows o n a b (λ t. get (over own t) p ≡ own_rows row)
+look_behind o n a b own p seen row f h e = so o n a b _ _ f (λ t g. h t ∙ sym (told_back (get t p)) ∙ ap told_row g ∙ sym e)
+
+pub ruleset looking = (own_here, own_past, look_own, look_behind)

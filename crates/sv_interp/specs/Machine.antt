@@ -1,0 +1,80 @@
+-- What the interpreter holds, as the meaning of a run speaks of it.
+use Rattle.std.specs.Prelude.{◌≡◌, List, [], ◌∷◌, Option, Some, None, map, if◌then◌else◌}
+use Rattle.std.specs.FinMap.{get, insert}
+use Rattle.std.specs.Borrow.{Bor}
+use Rattle.sv_value.specs.declared.values.Val.{Val}
+use Rattle.sv_app.specs.declared.places.Place.{Place}
+use Rattle.sv_app.specs.Schema.{schema_of}
+use Rattle.sv_app.specs.Tables.{Row, Tables}
+use Rattle.sv_effect.specs.declared.outcomes.Outcome.{Outcome}
+use Rattle.sv_effect.specs.Follows.{Follows}
+use Rattle.sv_effect.specs.Reads.{SeenValue, ReadValue}
+use Rattle.sv_effect.specs.Run as run
+use Rattle.sv_effect.specs.Run.{Stand, Flow, Goes, Ends}
+use Rattle.sv_effect.specs.RunChanges.{effect_of}
+use Rattle.sv_effect.specs.RunValues as values
+use Rattle.sv_effect.specs.RunValues.{Evaluated, Leaves, Gives}
+use Rattle.sv_interp.specs.declared.scopes.Progress.{Progress}
+use Rattle.sv_interp.specs.declared.scopes.Scope.{Scope}
+use Rattle.sv_interp.specs.declared.states.OwnRow.{OwnRow}
+use Rattle.sv_interp.specs.declared.states.Setting.{Setting}
+use Rattle.sv_interp.specs.declared.states.State.{State}
+
+abbrev pub progress_of : Progress → values.Progress
+progress_of p = record { unit = p.unit; number = p.number; choices = p.choices; tape = p.tape; known = p.known; known_old = p.known_old }
+
+abbrev pub scope_of : Scope → values.Scope
+scope_of s = record { values = s.values.items; rows = s.rows.items; old = s.before; progress = progress_of s.progress }
+
+abbrev pub as_evaluated : {A : Type 0} → Option A → values.Scope → Evaluated A
+as_evaluated None s = Leaves
+as_evaluated (Some v) s = Gives v s
+
+-- a value and the scope after it, or none where an integer left 64 bits
+abbrev pub evaluated : {A : Type 0} → Option A → Scope → Evaluated A
+evaluated None s = Leaves
+evaluated (Some v) s = Gives v (scope_of s)
+
+abbrev pub listed : {A : Type 0} → Option A → List A
+listed None = []
+listed (Some x) = x ∷ []
+
+-- the rows that the run wrote itself, the latest first, over the tables
+abbrev pub own_row : OwnRow → Row
+own_row row = record { values = row.values; present = row.present }
+
+abbrev pub over : List (Place × OwnRow) → Tables → Tables
+over [] t = t
+over (e ∷ es) t = insert (over es t) e.0 (own_row e.1)
+
+abbrev pub own_rows : Option OwnRow → Option Row
+own_rows None = None
+own_rows (Some row) = Some (own_row row)
+
+-- a row that the run wrote hides the one behind it
+abbrev pub hides : Option Row → Option Row → Option Row
+hides None behind = behind
+hides (Some row) behind = Some row
+
+abbrev pub lent : Option (Bor OwnRow) → Option Row
+lent None = None
+lent (Some row) = Some (own_row row.now)
+
+-- the row that an answer tells of
+abbrev pub told_row : SeenValue → Option Row
+told_row seen = if seen.kept then Some (record { values = seen.values; present = seen.present }) else None
+
+-- where a run stands, over given tables
+abbrev pub stand : Tables → State → Stand
+stand t s = record { scope = scope_of s.scope; tables = over s.own.items t; effects = map effect_of s.effects; replies = s.replies; instances = s.instances }
+
+abbrev pub flow_of : Option Outcome → Stand → Flow
+flow_of None st = Goes st
+flow_of (Some o) st = Ends o
+
+abbrev pub setting_of : Setting → run.Setting
+setting_of g = record { schema = schema_of g.tables.now; arguments = g.args.now; loops = g.loops.now }
+
+-- What a step did between two moments, with the rows and with the state: it is what the meaning does, of all tables that agree with the answers given.
+pub record Runs (meaning : Stand → Flow) (told_before told_now : Option Tables) (before now : Option (List ReadValue)) (s : State) (end : Option Outcome) (s' : State) : Type 0 where
+  pub ran : Follows told_before told_now before now (λ t. meaning (stand t s) ≡ flow_of end (stand t s'))

@@ -1,0 +1,299 @@
+ghost use Rattle.std.specs.Prelude.{◌≡◌, ◌+◌, ◌==◌, ◌++◌, ◌∷◌, [], OnOk, IfOk, map, drop, if◌then◌else◌};
+ghost use Rattle.sv_value.specs.declared.values.Key.{Key as KeyValue};
+ghost use Rattle.sv_app.specs.Schema.{declaration_of};
+ghost use Rattle.sv_app.specs.Slots.{item};
+ghost use Rattle.sv_app.specs.Symbols.{is_key_column};
+ghost use Rattle.sv_app.specs.Trees.{terms_of};
+ghost use Rattle.sv_app.specs.Kinds.{is_grow_only};
+ghost use Rattle.sv_effect.specs.BareTables.{got_of};
+ghost use Rattle.sv_effect.specs.RowChange.{zero_of, key_values, from_key, values_from, zero_values};
+ghost use Rattle.sv_effect.specs.RunChanges.{writes_at, in_order, kept_to, insert_of, inserts, key_of, key_in, second_of};
+ghost use Rattle.sv_effect.specs.RunValues.{column, val_of, nothing, values_of};
+ghost use Rattle.sv_effect.specs.TablesOfCut.{number_in};
+ghost use Rattle.sv_interp.specs.Machine.{scope_of, evaluated, listed};
+
+use crate::scopes::{Scope, column};
+use crate::slots::prepend;
+use crate::values::{number_in, val_of, value};
+use crate::writes::{delta_to, got_of};
+use std::alloc::Global;
+use sv_app::{Column, Expr, Got, Ident, Kind, Merge, Table, Ty};
+use sv_effect::Write;
+use sv_value::{Key, List, NoMemory, Text, Val};
+
+/// The values of expressions, from left to right; none where an integer leaves 64 bits.
+pub fn values(
+    alloc: Global,
+    exprs: &[Expr],
+    scope: &mut Scope,
+) -> Result<Option<List<Val>>, NoMemory>
+    ensures { IfOk result (λ vs. values_of (terms_of exprs.now) (scope_of scope.old) ≡ evaluated vs scope.new) }
+{
+    match exprs {
+        [] => Ok(Some(List::new(alloc))),
+        [expr, rest @ ..] => {
+            let Some(val) = value(expr, scope)? else {
+                return Ok(None);
+            };
+            let Some(vals) = values(alloc, rest, scope)? else {
+                return Ok(None);
+            };
+            Ok(Some(prepend(val, vals)?))
+        }
+    }
+}
+
+/// The key of one or two values.
+pub fn key_of(vals: &[Val]) -> Key
+    ensures { result ≡ key_of vals.now }
+{
+    match vals {
+        [] => Key {
+            first: Val::Int(0),
+            second: None,
+        },
+        [first] => Key {
+            first: *first,
+            second: None,
+        },
+        [first, second, ..] => Key {
+            first: *first,
+            second: Some(*second),
+        },
+    }
+}
+
+fn val_at(vals: &[Val], number: u16) -> Val
+    ensures { result ≡ item nothing vals.now number }
+{
+    match vals.get(number as usize) {
+        Some(val) => *val,
+        None => Val::Int(0),
+    }
+}
+
+fn key_parts(alloc: Global, key: &[Ident], vals: &[Val]) -> Result<List<Val>, NoMemory>
+    ensures { IfOk result (λ parts. parts ≡ map (λ name. item nothing vals.now name.num) key.now) }
+{
+    match key {
+        [] => Ok(List::new(alloc)),
+        [name, rest @ ..] => {
+            let parts = key_parts(alloc, rest, vals)?;
+            prepend(val_at(vals, name.num), parts)
+        }
+    }
+}
+
+/// The key of a row with these values.
+pub fn key_in(alloc: Global, key: &[Ident], vals: &[Val]) -> Result<Key, NoMemory>
+    ensures { IfOk result (λ k. k ≡ key_in key.now vals.now) }
+{
+    let parts = key_parts(alloc, key, vals)?;
+    Ok(key_of(parts.items()))
+}
+
+fn is_key_column(key: &[Ident], number: u16) -> bool
+    ensures { result ≡ is_key_column key.now number }
+{
+    key.iter().any(|name| name.num == number)
+}
+
+fn write_at(number: u16, writes: &[(u16, Write)]) -> Option<(u16, Write)>
+    ensures { listed result ≡ writes_at number writes.now }
+{
+    match writes {
+        [] => None,
+        [write, rest @ ..] => {
+            if write.0 == number {
+                Some(*write)
+            } else {
+                write_at(number, rest)
+            }
+        }
+    }
+}
+
+/// The write to a column outside the key.
+fn write_outside(key: &[Ident], number: u16, writes: &[(u16, Write)]) -> Option<(u16, Write)>
+    ensures { listed result ≡ (if is_key_column key.now number then [] else writes_at number writes.now) }
+{
+    if is_key_column(key, number) {
+        return None;
+    }
+    write_at(number, writes)
+}
+
+fn next_number(number: u16) -> Result<u16, NoMemory>
+    ensures { IfOk result (λ next. next ≡ number + 1) }
+{
+    match number.checked_add(1) {
+        Some(next) => Ok(next),
+        None => Err(NoMemory),
+    }
+}
+
+/// The writes in the order of the columns, from one on.
+pub fn in_order(
+    alloc: Global,
+    table: &Table,
+    number: u16,
+    columns: &[Column],
+    writes: &[(u16, Write)],
+) -> Result<List<(u16, Write)>, NoMemory>
+    ensures { IfOk result (λ ws. ws ≡ in_order (declaration_of table.now) number columns.now writes.now) }
+{
+    match columns {
+        [] => Ok(List::new(alloc)),
+        [_, rest @ ..] => {
+            let later = in_order(alloc, table, next_number(number)?, rest, writes)?;
+            match write_outside(&table.key, number, writes) {
+                Some(write) => prepend(write, later),
+                None => Ok(later),
+            }
+        }
+    }
+}
+
+fn kept_to(new: &Val, kept: &Got, scope: &mut Scope) -> Result<Option<Write>, NoMemory>
+    ensures { IfOk result (λ w. kept_to new.now (val_of kept.now) (scope_of scope.old) ≡ evaluated w scope.new) }
+{
+    let Some(old) = val_of(*kept) else {
+        return Ok(None);
+    };
+    scope.progress.put(&old)?;
+    Ok(delta_to(new, &old))
+}
+
+/// How an insert writes a column.
+fn insert_of(
+    grows: bool,
+    merge: Merge,
+    val: &Val,
+    kept: &Got,
+    scope: &mut Scope,
+) -> Result<Option<Write>, NoMemory>
+    ensures { IfOk result (λ w. insert_of grows merge val.now kept.now (scope_of scope.old) ≡ evaluated w scope.new) }
+{
+    match merge {
+        Merge::NumDelta => {
+            if grows {
+                Ok(Some(Write::Delta(number_in(val))))
+            } else {
+                kept_to(val, kept, scope)
+            }
+        }
+        Merge::Plain | Merge::Lww => Ok(Some(Write::Set(*val))),
+    }
+}
+
+/// Whether rows of such a table are never removed.
+pub fn is_grow_only(kind: Kind) -> bool
+    ensures { result ≡ is_grow_only kind }
+{
+    match kind {
+        Kind::Aoset | Kind::Uoset | Kind::Auset => true,
+        Kind::Plain | Kind::Arset => false,
+    }
+}
+
+/// The writes of an insert to the columns from one on; none where a number leaves 64 bits.
+pub fn inserts(
+    alloc: Global,
+    table: &Table,
+    vals: &[Val],
+    kept: &[Got],
+    number: u16,
+    columns: &[Column],
+    scope: &mut Scope,
+) -> Result<Option<List<(u16, Write)>>, NoMemory>
+    ensures { IfOk result (λ ws. inserts (declaration_of table.now) vals.now kept.now number columns.now (scope_of scope.old) ≡ evaluated ws scope.new) }
+{
+    match columns {
+        [] => Ok(Some(List::new(alloc))),
+        [first, rest @ ..] => {
+            let next = next_number(number)?;
+            if is_key_column(&table.key, number) {
+                return inserts(alloc, table, vals, kept, next, rest, scope);
+            }
+            let grows = is_grow_only(table.kind);
+            let val = val_at(vals, number);
+            let Some(write) = insert_of(grows, first.merge, &val, &column(kept, number), scope)?
+            else {
+                return Ok(None);
+            };
+            let Some(writes) = inserts(alloc, table, vals, kept, next, rest, scope)? else {
+                return Ok(None);
+            };
+            Ok(Some(prepend((number, write), writes)?))
+        }
+    }
+}
+
+fn zero_of(ty: Ty) -> Val
+    ensures { result ≡ zero_of ty }
+{
+    match ty {
+        Ty::Text => match Text::new(&[]) {
+            Some(text) => Val::Text(text),
+            None => unreachable!(),
+        },
+        Ty::Int | Ty::Ints => Val::Int(0),
+    }
+}
+
+fn from_key(names: &[Ident], parts: &[Val], number: u16, zero: &Val) -> Val
+    ensures { result ≡ from_key names.now parts.now number zero.now }
+{
+    match names {
+        [] => *zero,
+        [name, names @ ..] => match parts {
+            [] => *zero,
+            [part, parts @ ..] => {
+                if name.num == number {
+                    *part
+                } else {
+                    from_key(names, parts, number, zero)
+                }
+            }
+        },
+    }
+}
+
+fn zeros_from(
+    alloc: Global,
+    table: &Table,
+    parts: &[Val],
+    number: u16,
+    columns: &[Column],
+) -> Result<List<Got>, NoMemory>
+    ensures { IfOk result (λ row. (key : KeyValue) → key_values key ≡ parts.now → row ≡ map got_of (values_from (declaration_of table.now) key number columns.now)) }
+{
+    match columns {
+        [] => Ok(List::new(alloc)),
+        [first, rest @ ..] => {
+            let later = zeros_from(alloc, table, parts, next_number(number)?, rest)?;
+            let val = from_key(&table.key, parts, number, &zero_of(first.ty));
+            prepend(got_of(&val), later)
+        }
+    }
+}
+
+/// The values of a key.
+pub fn key_values(alloc: Global, key: &Key) -> Result<List<Val>, NoMemory>
+    ensures { IfOk result (λ parts. key_values key.now ≡ parts) }
+{
+    let mut parts = List::new(alloc);
+    parts.push(key.first)?;
+    if let Some(second) = key.second {
+        parts.push(second)?;
+    }
+    Ok(parts)
+}
+
+/// The values of a row that isn't kept.
+pub fn zeros(alloc: Global, table: &Table, key: &Key) -> Result<List<Got>, NoMemory>
+    ensures { IfOk result (λ row. row ≡ map got_of (zero_values (declaration_of table.now) key.now)) }
+{
+    let parts = key_values(alloc, key)?;
+    zeros_from(alloc, table, parts.items(), 0, &table.columns)
+}

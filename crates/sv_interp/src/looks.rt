@@ -1,0 +1,97 @@
+ghost use Rattle.std.specs.Prelude.{◌≡◌, IfOk, OnErr, Err, false, List, Option};
+ghost use Rattle.std.specs.FinMap.{get};
+ghost use Rattle.sv_app.specs.declared.places.Place.{Place as PlaceValue};
+ghost use Rattle.sv_app.specs.Schema.{Declaration};
+ghost use Rattle.sv_app.specs.Tables.{Tables};
+ghost use Rattle.sv_effect.specs.declared.reads.Ask.{Ask as AskValue};
+ghost use Rattle.sv_effect.specs.declared.reads.Halt.TheVariants as halt;
+ghost use Rattle.sv_effect.specs.Follows.{Follows};
+ghost use Rattle.sv_effect.specs.Reads.{seen_of};
+ghost use Rattle.sv_effect.specs.TablesOfCut.{is_place};
+ghost use Rattle.sv_interp.specs.Machine.{over, own_row, own_rows, hides, lent, told_row};
+
+use crate::states::OwnRow;
+use std::alloc::Global;
+use sv_app::{Got, Place};
+use sv_effect::{Halt, Rows, Seen, ask_row};
+use sv_value::{List, NoMemory};
+
+/// Whether they are one place.
+pub fn is_place(left: &Place, right: &Place) -> bool
+    ensures { result ≡ is_place left.now right.now }
+{
+    left.cmp(right).is_eq()
+}
+
+/// The row that the run wrote there.
+#[tactic(auto, using(crate::proofs::LookLaws::looking))]
+fn written<'a>(own: &'a [(Place, OwnRow)], place: &Place) -> Option<&'a OwnRow>
+    ensures { (t : Tables) → get (over own.now t) place.now ≡ hides (lent result) (get t place.now) }
+{
+    match own.split_first() {
+        None => None,
+        Some((first, rest)) => {
+            if is_place(place, &first.0) {
+                Some(&first.1)
+            } else {
+                written(rest, place)
+            }
+        }
+    }
+}
+
+/// A list of these values.
+pub fn copy_values(alloc: Global, values: &[Got]) -> Result<List<Got>, NoMemory>
+    ensures { IfOk result (λ copy. copy ≡ values.now) }
+{
+    Ok(List::from_vec(Vec::from_slice(alloc, values)?))
+}
+
+fn copy_row(alloc: Global, row: &OwnRow) -> Result<OwnRow, NoMemory>
+    ensures { IfOk result (λ copy. own_row copy ≡ own_row row.now) }
+{
+    Ok(OwnRow {
+        values: copy_values(alloc, row.values.items())?,
+        present: row.present,
+    })
+}
+
+fn told_row(alloc: Global, seen: &Seen) -> Result<Option<OwnRow>, NoMemory>
+    ensures { IfOk result (λ row. own_rows row ≡ told_row (seen_of seen.now)) }
+{
+    if !seen.kept {
+        return Ok(None);
+    }
+    Ok(Some(OwnRow {
+        values: copy_values(alloc, seen.values.as_slice())?,
+        present: seen.present,
+    }))
+}
+
+/// What stands at a place: the row that the run wrote there, else the one that is told of.
+#[tactic(auto, using(crate::proofs::LookLaws::looking))]
+pub fn look<R: Rows>(
+    alloc: Global,
+    own: &[(Place, OwnRow)],
+    rows: &mut R,
+    place: &Place,
+) -> Result<Option<OwnRow>, Halt>
+    ensures followed { IfOk result (λ row. Follows (R.tables rows.old) (R.tables rows.new) (R.noted rows.old) (R.noted rows.new) (λ t. get (over own.now t) place.now ≡ own_rows row)) }
+    ensures same_app { (schema : List Declaration) → R.is_of rows.old schema → R.is_of rows.new schema }
+    ensures same_tables { R.tables rows.new ≡ R.tables rows.old }
+    ensures same_knows { R.knows rows.new ≡ R.knows rows.old }
+    ensures same_rest { R.rest rows.new ≡ R.rest rows.old }
+    ensures missing { (a : AskValue) → result ≡ Err (halt.Missing a) → R.knows rows.old a ≡ false }
+{
+    match written(own, place) {
+        Some(row) => {
+            let copy = copy_row(alloc, row)?;
+            Ok(Some(copy))
+        }
+        None => {
+            let seen = ask_row(rows, place.table, &place.key)?;
+            let row = told_row(alloc, &seen)?;
+            Ok(row)
+        }
+    }
+}

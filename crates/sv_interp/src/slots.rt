@@ -1,0 +1,73 @@
+ghost use Rattle.std.specs.Prelude.{◌≡◌, ◌≤◌, pos, ◌∷◌, [], length, OnOk, IfOk};
+ghost use Rattle.sv_app.specs.declared.gots.Got.TheVariants as gots;
+ghost use Rattle.sv_app.specs.Slots.{with_item};
+ghost use Rattle.sv_effect.specs.RunValues.{nothing};
+
+use std::alloc::Global;
+use sv_app::Got;
+use sv_value::{List, NoMemory, Val};
+
+/// Puts a value at its number, with the number 0 where nothing was put before it.
+#[tactic(auto, using(crate::proofs::SlotLaws::slots))]
+pub fn put_value(values: &mut Vec<Val>, number: u16, val: &Val) -> Result<(), NoMemory>
+    ensures { OnOk result (values.new.items ≡ with_item nothing number val.now values.old.items) }
+{
+    let at = number as usize;
+    while values.len() < at {
+        values.push(Val::Int(0))?;
+    }
+    if at < values.len() {
+        values[at] = *val;
+    } else {
+        values.push(*val)?;
+    }
+    Ok(())
+}
+
+/// The same of rows, with empty ones before it.
+#[tactic(auto, using(crate::proofs::SlotLaws::slots))]
+pub fn put_row(
+    alloc: Global,
+    rows: &mut Vec<List<Got>>,
+    number: u16,
+    row: List<Got>,
+) -> Result<(), NoMemory>
+    ensures { OnOk result (rows.new.items ≡ with_item [] number row rows.old.items) }
+{
+    let at = number as usize;
+    while rows.len() < at {
+        rows.push(List::new(alloc))?;
+    }
+    if at < rows.len() {
+        rows[at] = row;
+    } else {
+        rows.push(row)?;
+    }
+    Ok(())
+}
+
+/// The same of the values of a row.
+#[tactic(auto, using(crate::proofs::SlotLaws::slots))]
+pub fn put_got(row: &mut Vec<Got>, number: u16, got: &Got) -> Result<(), NoMemory>
+    ensures { OnOk result (row.new.items ≡ with_item (gots.Num (pos 0)) number got.now row.old.items) }
+{
+    let at = number as usize;
+    while row.len() < at {
+        row.push(Got::Num(0))?;
+    }
+    if at < row.len() {
+        row[at] = *got;
+    } else {
+        row.push(*got)?;
+    }
+    Ok(())
+}
+
+/// The list with an item before it.
+pub fn prepend<T: Drop>(first: T, rest: List<T>) -> Result<List<T>, NoMemory>
+    ensures { IfOk result (λ list. list ≡ first ∷ rest) }
+{
+    let mut items = rest.into_vec();
+    items.insert(0, first)?;
+    Ok(List::from_vec(items))
+}

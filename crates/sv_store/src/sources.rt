@@ -1,0 +1,64 @@
+ghost use Rattle.std.specs.Prelude.{refl, true, false, None, Some};
+ghost use Rattle.sv_effect.specs.BareTables.{bare};
+ghost use Rattle.sv_effect.specs.RowsFit.{TablesAreOf};
+ghost use Rattle.sv_store.specs.Rest.{rest_of};
+
+use crate::stores::ListStore;
+use sv_app::App;
+use sv_effect::{Halt, Op, RowStore, Rows, Seen};
+use sv_value::Key;
+
+impl Rows for ListStore {
+    ghost is_of = { λ store schema. TablesAreOf schema store.tables };
+
+    ghost tables = { λ store. Some (bare store.tables) };
+
+    ghost knows = { λ store ask. true };
+
+    ghost rest = { λ store. rest_of store.tables };
+
+    ghost noted = { λ store. None };
+
+    ghost takes_memory = { λ store. false };
+
+    #[tactic(auto, using(crate::proofs::NextLaws::next_fits))]
+    fn row(&mut self, table: u16, key: &Key) -> Result<Seen, Halt> {
+        Ok(self.seen(table, key))
+    }
+
+    #[tactic(auto, using(crate::proofs::NextLaws::next_fits, crate::proofs::NextLaws::next_rises, crate::proofs::NextLaws::next_falls))]
+    fn next(&mut self, table: u16, after: Option<&Key>) -> Result<Option<Key>, Halt> {
+        Ok(self.key_after(table, after))
+    }
+}
+
+impl RowStore for ListStore {
+    ghost stamped = { λ store. store.tables };
+
+    ghost room = { λ store. store.room };
+
+    ghost of_app = { λ store schema. (λ of. of, λ of. of) };
+
+    ghost tells = { λ store. refl };
+
+    ghost knows_all = { λ store ask. refl };
+
+    ghost never_short = { λ store. refl };
+
+    fn see(&self, table: u16, key: &Key) -> Seen {
+        self.seen(table, key)
+    }
+
+    #[tactic(auto, using(crate::proofs::NextLaws::next_fits, crate::proofs::NextLaws::next_falls))]
+    fn next_after(&self, table: u16, after: Option<&Key>) -> Option<Key> {
+        self.key_after(table, after)
+    }
+
+    fn room(&self) -> u32 {
+        ListStore::room(self)
+    }
+
+    fn apply(&mut self, app: &App, op: &Op) {
+        ListStore::apply(self, app, op);
+    }
+}

@@ -1,0 +1,19 @@
+-- What stands around an expression, in terms of declarations.
+use Rattle.std.specs.Prelude.{List, Option, Some, None}
+use Rattle.sv_app.specs.declared.names.Known.{Known}
+use Rattle.sv_app.specs.declared.schemas.Table.{Table}
+use Rattle.sv_app.specs.Schema.{schema_of}
+use Rattle.sv_app.specs.Scopes as scopes
+use Rattle.sv_typing.specs.declared.scopes.Scope.{Scope}
+
+abbrev pub scope_of : Scope → scopes.Scope
+scope_of at = record { schema = schema_of at.tables.now; known = at.known.now; updated = at.updated }
+
+-- outside the expressions behind `set`
+abbrev pub in_block : List Table → List Known → scopes.Scope
+in_block tables known = record { schema = schema_of tables; known = known; updated = None }
+
+-- a name more, if there is one
+abbrev pub knowing : scopes.Scope → Option Known → scopes.Scope
+knowing at None = at
+knowing at (Some known) = scopes.knowing at known.name known.meaning
