@@ -7,5 +7,6 @@ pub mod LimitLaws
 pub mod LiteralLaws
 pub mod OperatorLaws
 pub mod PieceLaws
+pub mod RoomLaws
 pub mod TermLaws
 pub mod TestLaws

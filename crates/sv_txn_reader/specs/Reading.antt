@@ -113,6 +113,19 @@ unfoldable mutual
   sums_at zero tokens = sums_with 0 (products_with 0 (factor_with 0 never never) never) never tokens
   sums_at (suc room) tokens = sums_with (suc room) (products_with (suc room) (factor_with (suc room) (factor_at room) (sums_at room)) (factor_at room)) (products_at room) tokens
 
+-- the same inside something that takes one of this room
+abbrev pub factor_below : ℕ → List Token → Read Graded
+factor_below zero = never
+factor_below (suc room) = factor_at room
+
+abbrev pub products_below : ℕ → List Token → Read Graded
+products_below zero = never
+products_below (suc room) = products_at room
+
+abbrev pub sums_below : ℕ → List Token → Read Graded
+sums_below zero = never
+sums_below (suc room) = sums_at room
+
 unfoldable pub expr_at : List Token → Read Term
 expr_at tokens = sums_at 15 tokens >>= λ e r. Ok (e.0, r)
 
@@ -181,6 +194,18 @@ unfoldable mutual
   disjunctions_at zero tokens = disjunctions_with 0 (conjunctions_with 0 (literal_with 0 (sums_at 0) never never) never) never tokens
   disjunctions_at (suc room) tokens =
       disjunctions_with (suc room) (conjunctions_with (suc room) (literal_with (suc room) (sums_at (suc room)) (literal_at room) (disjunctions_at room)) (literal_at room)) (conjunctions_at room) tokens
+
+abbrev pub literal_below : ℕ → List Token → Read Judged
+literal_below zero = never
+literal_below (suc room) = literal_at room
+
+abbrev pub conjunctions_below : ℕ → List Token → Read Judged
+conjunctions_below zero = never
+conjunctions_below (suc room) = conjunctions_at room
+
+abbrev pub disjunctions_below : ℕ → List Token → Read Judged
+disjunctions_below zero = never
+disjunctions_below (suc room) = disjunctions_at room
 
 unfoldable pub cond_at : List Token → Read Test
 cond_at tokens = disjunctions_at 14 tokens >>= λ t r. Ok (t.0, r)

@@ -7,7 +7,7 @@ mod counts;
 mod graded;
 mod heads;
 mod reading;
-// mod terms;
+mod terms;
 
 pub use counts::Counts;
 pub use reading::read_txns;
