@@ -10,3 +10,4 @@ pub mod PieceLaws
 pub mod RoomLaws
 pub mod TermLaws
 pub mod TestLaws
+pub mod TestRoomLaws

@@ -3,6 +3,7 @@
 #![tactic(auto)]
 
 mod beginnings;
+mod conditions;
 mod counts;
 mod graded;
 mod heads;
