@@ -4,6 +4,7 @@ pub mod FactorLaws
 pub mod Laws
 pub mod LeafLaws
 pub mod LimitLaws
+pub mod ListLaws
 pub mod LiteralLaws
 pub mod OperatorLaws
 pub mod PieceLaws

@@ -221,26 +221,25 @@ keys_at tokens =
 unfoldable pub index_at : List Token → Read (List Term)
 index_at tokens = kind_at (Mark marks.LeftBracket) tokens >>= λ _ r1. keys_at r1 >>= λ keys r2. kind_at (Mark marks.RightBracket) r2 >>= λ _ r3. Ok (keys, r3)
 
-unfoldable pub value_step : List Term → List Token → Read (List Term)
-value_step values tokens = expr_at tokens >>= λ e r. Ok (values ++ e ∷ [], r)
-
-unfoldable pub value_turn : List Term → List Token → Read (List Term)
-value_turn values tokens = kind_at (Mark marks.Comma) tokens >>= λ _ r. value_step values r
-
-unfoldable pub values_at : List Token → Read (List Term)
-values_at tokens = value_step [] tokens >>= λ values r. turns_at (is_next (Mark marks.Comma)) value_turn keep values r
-
 unfoldable pub setting_at : List Token → Read (Ident × Term)
 setting_at tokens = name_at tokens >>= λ x r1. kind_at (Mark marks.Eq) r1 >>= λ _ r2. expr_at r2 >>= λ e r3. Ok ((x, e), r3)
 
-unfoldable pub set_step : List (Ident × Term) → List Token → Read (List (Ident × Term))
-set_step sets tokens = setting_at tokens >>= λ s r. Ok (sets ++ s ∷ [], r)
+-- one more item behind others, which is read so
+unfoldable pub item_step : {A : Type 0} → (List A → List Token → Read A) → List A → List Token → Read (List A)
+item_step read items tokens = read items tokens >>= λ a r. Ok (items ++ a ∷ [], r)
 
-unfoldable pub set_turn : List (Ident × Term) → List Token → Read (List (Ident × Term))
-set_turn sets tokens = kind_at (Mark marks.Comma) tokens >>= λ _ r. set_step sets r
+unfoldable pub item_turn : {A : Type 0} → (List A → List Token → Read A) → List A → List Token → Read (List A)
+item_turn read items tokens = kind_at (Mark marks.Comma) tokens >>= λ _ r. item_step read items r
 
-unfoldable pub sets_at : List Token → Read (List (Ident × Term))
-sets_at tokens = set_step [] tokens >>= λ sets r. turns_at (is_next (Mark marks.Comma)) set_turn keep sets r
+-- items between commas
+unfoldable pub list_of : {A : Type 0} → (List A → List Token → Read A) → List Token → Read (List A)
+list_of read tokens = item_step read [] tokens >>= λ items r. turns_at (is_next (Mark marks.Comma)) (item_turn read) keep items r
+
+unfoldable pub value_at : List Term → List Token → Read Term
+value_at values tokens = expr_at tokens
+
+unfoldable pub set_at : List (Ident × Term) → List Token → Read (Ident × Term)
+set_at sets tokens = setting_at tokens
 
 -- statements
 
@@ -295,12 +294,12 @@ get_at tokens =
 
 unfoldable pub insert_at : List Token → Read Command
 insert_at tokens =
-    kind_at (Name (codes "insert")) tokens >>= λ _ r1. name_at r1 >>= λ table r2. kind_at (Mark marks.LeftParen) r2 >>= λ _ r3. values_at r3 >>= λ values r4.
+    kind_at (Name (codes "insert")) tokens >>= λ _ r1. name_at r1 >>= λ table r2. kind_at (Mark marks.LeftParen) r2 >>= λ _ r3. list_of value_at r3 >>= λ values r4.
     kind_at (Mark marks.RightParen) r4 >>= λ _ r5. kind_at (Mark marks.Semi) r5 >>= λ _ r6. Ok (trees.Insert table values, r6)
 
 unfoldable pub update_at : List Token → Read Command
 update_at tokens =
-    kind_at (Name (codes "update")) tokens >>= λ _ r1. name_at r1 >>= λ table r2. index_at r2 >>= λ keys r3. kind_at (Name (codes "set")) r3 >>= λ _ r4. sets_at r4 >>= λ sets r5.
+    kind_at (Name (codes "update")) tokens >>= λ _ r1. name_at r1 >>= λ table r2. index_at r2 >>= λ keys r3. kind_at (Name (codes "set")) r3 >>= λ _ r4. list_of set_at r4 >>= λ sets r5.
     kind_at (Mark marks.Semi) r5 >>= λ _ r6. Ok (trees.Update table keys sets, r6)
 
 unfoldable pub remove_at : List Token → Read Command
@@ -409,17 +408,14 @@ type_named word =
     if bytes_eq word (codes "int") then Some types.Int else if bytes_eq word (codes "text") then Some types.Text
     else if bytes_eq word (codes "ints") then Some types.Ints else None
 
-unfoldable pub param_step : List (Ident × Ty) → List Token → Read (List (Ident × Ty))
-param_step params tokens =
+-- one more parameter
+unfoldable pub param_at : List (Ident × Ty) → List Token → Read (Ident × Ty)
+param_at params tokens =
     if is_name tokens && nat_le 16 (length params) then refuse Many tokens
-    else (name_at tokens >>= λ x r1. kind_at (Mark marks.Colon) r1 >>= λ _ r2. token_at (λ token. by_word type_named token.kind) r2 >>= λ ty r3. Ok (params ++ (x, ty) ∷ [], r3))
-
-unfoldable pub param_turn : List (Ident × Ty) → List Token → Read (List (Ident × Ty))
-param_turn params tokens = kind_at (Mark marks.Comma) tokens >>= λ _ r. param_step params r
+    else (name_at tokens >>= λ x r1. kind_at (Mark marks.Colon) r1 >>= λ _ r2. token_at (λ token. by_word type_named token.kind) r2 >>= λ ty r3. Ok ((x, ty), r3))
 
 unfoldable pub params_at : List Token → Read (List (Ident × Ty))
-params_at tokens =
-    if is_next (Mark marks.RightParen) tokens then Ok ([], tokens) else (param_step [] tokens >>= λ params r. turns_at (is_next (Mark marks.Comma)) param_turn keep params r)
+params_at tokens = if is_next (Mark marks.RightParen) tokens then Ok ([], tokens) else list_of param_at tokens
 
 unfoldable pub txn_at : List Token → Read Transaction
 txn_at tokens =

@@ -9,6 +9,7 @@ mod graded;
 mod heads;
 mod reading;
 mod terms;
+mod values;
 
 pub use counts::Counts;
 pub use reading::read_txns;
