@@ -1,8 +1,10 @@
 pub mod AcceptanceLaws
 pub mod NotedLaws
+pub mod NumberedSchema
 pub mod PlaceLaws
 pub mod CycleLaws
 pub mod DeclaredLaws
+pub mod Erased
 pub mod FillLaws
 pub mod FirstLaws
 pub mod LookupLaws
