@@ -111,7 +111,7 @@ another_bare : (t : Declaration) (o : Option Ident) → another_key (bare_table 
 another_bare t None = refl
 another_bare t (Some name) = simp (no_column_bare) refl
 
-flat_bare : {A B : Type 0} (f : A → A) (g h : A → List B) (xs : List A) → ((x : A) → g (f x) ≡ h x) → flat_map g (map f xs) ≡ flat_map h xs
+pub flat_bare : {A B : Type 0} (f : A → A) (g h : A → List B) (xs : List A) → ((x : A) → g (f x) ≡ h x) → flat_map g (map f xs) ≡ flat_map h xs
 flat_bare f g h [] same = refl
 flat_bare f g h (x ∷ xs) same = (λ i. same x i ++ flat_bare f g h xs same i)
 
@@ -160,7 +160,7 @@ meant_bare schema name p q same =
 pub no_table_bare : (schema : List Declaration) (name : Ident) → is_none (table_of (bare_schema schema) (bare name)) ≡ is_none (table_of schema name)
 no_table_bare schema name = ap is_none (table_bare schema name) ∙ none_map bare_table (table_of schema name)
 
-no_column_in : (t : Declaration) (name : Ident) → is_none (column_of (bare_table t) (bare name)) ≡ is_none (column_of t name)
+pub no_column_in : (t : Declaration) (name : Ident) → is_none (column_of (bare_table t) (bare name)) ≡ is_none (column_of t name)
 no_column_in t name = simp (column_bare, none_map) refl
 
 beside_bare : (t : Declaration) (name : Ident) → holds_of (column_of (bare_table t) (bare name)) (λ _. not (is_key (bare_table t) (bare name))) ≡ holds_of (column_of t name) (λ _. not (is_key t name))

@@ -5,6 +5,7 @@ pub mod PlaceLaws
 pub mod CycleLaws
 pub mod DeclaredLaws
 pub mod Erased
+pub mod ErasedTxns
 pub mod FillLaws
 pub mod FirstLaws
 pub mod LookupLaws
