@@ -1,6 +1,7 @@
 pub mod AcceptanceLaws
 pub mod NotedLaws
 pub mod NumberedSchema
+pub mod NumberedTxns
 pub mod PlaceLaws
 pub mod CycleLaws
 pub mod DeclaredLaws
