@@ -25,5 +25,5 @@ pub use laws::{
 pub use plain::{is_legal, tables_of_site};
 pub use plain_docs::is_sound;
 pub use plain_tables::tables_of_cut;
-pub use runs::Ran;
+pub use runs::{Ran, counter_of};
 pub use world::World;

@@ -56,7 +56,7 @@ pub(crate) fn fits64(n: &i128) -> bool
 }
 
 /// The counter of a row, which stands in its second column.
-fn counter_of(row: &Row) -> i128
+pub fn counter_of(row: &Row) -> i128
     ensures { result ≡ counter_of (row_of row.now) }
 {
     match row.cells.as_slice() {
