@@ -1,13 +1,14 @@
 ghost use Rattle.std.specs.Prelude.{◌≡◌, ◌++◌, OnOk, length, filter, ◌==◌, pos};
 ghost use Rattle.std.specs.Fmt.{decimal, signed_decimal};
-ghost use Rattle.sv_core.specs.Rows.{entry_of};
+ghost use Rattle.sv_store.specs.Stored.{entry_of};
 ghost use Rattle.sv_tool.specs.CheckText.{ok_line};
 ghost use Rattle.sv_tool.specs.Accepted.{sizes_said};
 ghost use Rattle.sv_tool.specs.Lines.{packet_text, label_text, reply_text, answer_line, delivered_line, value_text, second_text, key_text, row_line, refusal_line};
 
 use itoa::Buffer;
 use sv_app::Refusal;
-use sv_core::{Delivered, KeptRow, Outcome, Reply};
+use sv_core::{Delivered, Outcome, Reply, counter_of};
+use sv_store::KeptRow;
 use sv_value::{Key, NoMemory, Packet, Val, put_int};
 
 /// Appends the bytes.
@@ -188,7 +189,7 @@ pub fn put_row(out: &mut Vec<u8>, row: &KeptRow) -> Result<(), NoMemory>
     put_bytes(out, b"row")?;
     put_key(out, &row.place.key)?;
     put_bytes(out, b" ")?;
-    put_int(out, row.count)?;
+    put_int(out, counter_of(&row.row))?;
     put_bytes(out, b"\n")
 }
 
