@@ -1,6 +1,6 @@
 -- Tables without their stamps, and rows that are of an application.
-use Rattle.std.proofs.Common.{◌≡◌, ◌≢◌, ℕ, zero, suc, ◌+◌, cond, ◌&&◌, T, Bool, true, false, List, [], ◌∷◌, ◌++◌, Option, Some, None, slice_get, ◌<◌, ◌≤◌, length, take, get_or, refl, sym, ap, subst, ◌∙◌, arith}
-use Rattle.std.specs.Prelude.{ℤ, map, unwrap_or}
+use Rattle.std.proofs.Common.{◌≡◌, ◌≢◌, ℕ, suc, ◌+◌, cond, ◌&&◌, T, Bool, true, false, List, [], ◌∷◌, ◌++◌, Some, slice_get, ◌<◌, ◌≤◌, length, take, get_or, refl, sym, ap, subst, ◌∙◌, arith}
+use Rattle.std.specs.Prelude.{map}
 use Rattle.std.specs.Option.{option_map}
 use Rattle.std.specs.declared.cmp.Ordering.{Ordering}
 use Rattle.std.specs.Ordering.{is_eq, is_lt}
@@ -26,13 +26,13 @@ use Rattle.sv_app.proofs.PlaceLaws.{place_total, exact_places}
 use Rattle.sv_effect.specs.declared.cells.Cell.{Cell}
 use Rattle.sv_effect.specs.declared.cells.Cell.TheVariants.{Count, Last, Plain}
 use Rattle.sv_effect.specs.StampedTables.{StampedRow, StampedTables}
-use Rattle.sv_effect.specs.Applied.{Change, place_of, columns_of, columns_in, changed_at, with_change_at}
+use Rattle.sv_effect.specs.Applied.{Change, place_of, columns_of, with_change_at}
 use Rattle.sv_effect.specs.Fits.{HasType, CellFits, CellsFit, CountsFit, FitsSchema}
 use Rattle.sv_effect.specs.TablesOfCut.{is_place}
 use Rattle.sv_effect.specs.Commutes.{TablesFit}
 use Rattle.sv_effect.specs.BareTables.{got_of, value_of, bare_row, bare}
 use Rattle.sv_effect.specs.Agrees.{seen_in, seen_at}
-use Rattle.sv_effect.specs.RowsFit.{NumberFits, GotFits, GotsFit, KeyIsOf, ValuesAreOf, SeenFits, RowIsOf, TablesAreOf}
+use Rattle.sv_effect.specs.RowsFit.{NumberFits, GotFits, GotsFit, ValuesAreOf, SeenFits, RowIsOf, TablesAreOf}
 use Rattle.sv_effect.specs.Takes.{row_left}
 use Rattle.sv_effect.specs.Words.{IsWordVal, HasWord, HaveWords}
 use Rattle.sv_effect.proofs.KeptLaws.{change_kept}

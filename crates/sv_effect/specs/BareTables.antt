@@ -1,5 +1,5 @@
 -- Tables without their stamps: a row's values, and whether it is present.
-use Rattle.std.specs.Prelude.{ℕ, List, map, length}
+use Rattle.std.specs.Prelude.{ℕ, map, length}
 use Rattle.std.specs.FinMap.{entries, from_sorted}
 use Rattle.sv_value.specs.declared.values.Val.{Val}
 use Rattle.sv_value.specs.declared.values.Val.TheVariants.{Int, Text as IsText}

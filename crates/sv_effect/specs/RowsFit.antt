@@ -1,8 +1,7 @@
 -- Rows are of an application: each that is kept stands in one of its tables, under a key of that table, and has a value of its type for each column;
 -- sums of counters lie between -2^100 and 2^100, and other integers are of 64 bits.
-use Rattle.std.specs.Prelude.{◌≡◌, ℕ, ℤ, pos, neg_ℤ, ◌^◌, ◌≤ℤ◌, ◌<ℤ◌, Bool, true, false, List, [], ◌∷◌, Option, Some, None, slice_get}
+use Rattle.std.specs.Prelude.{◌≡◌, ℤ, pos, neg_ℤ, ◌^◌, ◌≤ℤ◌, ◌<ℤ◌, Bool, true, false, List, [], ◌∷◌, Some, slice_get}
 use Rattle.std.specs.FinMap.{get}
-use Rattle.sv_value.specs.declared.values.Key.{Key}
 use Rattle.sv_app.specs.declared.gots.Got.{Got}
 use Rattle.sv_app.specs.declared.gots.Got.TheVariants.{Num, Text as IsText}
 use Rattle.sv_app.specs.declared.places.Place.{Place}

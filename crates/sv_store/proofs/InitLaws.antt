@@ -1,7 +1,7 @@
 -- The tables of the initial rows, one row more.
 use Rattle.std.proofs.Common.{◌≡◌, ℕ, zero, suc, ◌+◌, ◌-◌, ◌<◌, ◌≤◌, ◌||◌, if◌then◌else◌, cond, Bool, true, false, List, [], ◌∷◌, ◌++◌, length, take, get_or, Option, Some, None, slice_get, refl, sym, ap, subst, ◌∙◌, arith}
 use Rattle.std.specs.Prelude.{map, All}
-use Rattle.std.proofs.lemmas.List.{take_more, take_all}
+use Rattle.std.proofs.lemmas.List.{take_more}
 use Rattle.std.proofs.lemmas.Map.Views.{tells_apart}
 use Rattle.std.specs.FinMap.{get, insert, get-insert, get-empty, same_map, empty as empty_tables}
 use Rattle.sv_value.specs.declared.values.Val.{Val}
@@ -11,15 +11,13 @@ use Rattle.sv_app.specs.declared.schemas.Column.{Column}
 use Rattle.sv_app.specs.declared.schemas.Table.{Table}
 use Rattle.sv_app.specs.Accepted.{AcceptedSchema}
 use Rattle.sv_app.specs.Schema.{Declaration, declaration_of, schema_of}
-use Rattle.sv_app.proofs.AcceptedLaws.{narrow, all_at}
+use Rattle.sv_app.proofs.AcceptedLaws.{narrow}
 use Rattle.sv_app.specs.Tables.{place_cmp}
 use Rattle.sv_app.proofs.PlaceLaws.{place_total, exact_places}
-use Rattle.sv_effect.specs.declared.cells.Cell.{Cell}
-use Rattle.sv_effect.specs.declared.cells.Cell.TheVariants.{Count, Last, Plain}
 use Rattle.sv_effect.specs.StampedTables.{StampedRow}
 use Rattle.sv_effect.specs.RowChange.{cells_from, row_from}
 use Rattle.sv_effect.specs.Applied.{columns_of, columns_in, annotated_in, zeros_in}
-use Rattle.sv_effect.specs.Fits.{CellsFit, IsNarrow, CountsFit}
+use Rattle.sv_effect.specs.Fits.{CellsFit, CountsFit}
 use Rattle.sv_effect.specs.RowsFit.{RowIsOf, TablesAreOf}
 use Rattle.sv_effect.specs.Cut.{empty}
 use Rattle.sv_effect.specs.TablesOfCut.{is_place, init_place, initial, values_or, is_there, row_at, named_by, all_to, changes_at, tables_held}

@@ -24,8 +24,8 @@ use Rattle.sv_app.proofs.PlaceLaws.{place_total, exact_places}
 use Rattle.sv_effect.specs.StampedTables.{StampedRow, StampedTables, row_of}
 use Rattle.sv_effect.specs.TablesOfCut.{is_place}
 use Rattle.sv_effect.specs.BareTables.{bare_row, bare}
-use Rattle.sv_effect.specs.Agrees.{place_at, seen_in, seen_at, is_present, is_after, IsNextKey}
-use Rattle.sv_effect.specs.RowsFit.{KeyIsOf, RowIsOf, TablesAreOf}
+use Rattle.sv_effect.specs.Agrees.{place_at, seen_in, is_present, is_after, IsNextKey}
+use Rattle.sv_effect.specs.RowsFit.{KeyIsOf, TablesAreOf}
 use Rattle.sv_effect.proofs.SourceLaws.{seen_at-bare}
 use Rattle.sv_store.specs.declared.rows.KeptRow.{KeptRow}
 use Rattle.sv_store.specs.Stored.{entry_of, tables_in, AreRising, IsAt, IsGapFor}

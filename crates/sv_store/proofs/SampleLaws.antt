@@ -1,7 +1,7 @@
 -- The tables of the tests are accepted, and their initial rows fit.
-use Rattle.std.proofs.Common.{◌≡◌, ◌≢◌, ℕ, ℤ, zero, suc, ◌+◌, ◌<◌, ◌≤◌, Bool, true, false, List, [], ◌∷◌, length, get_or, Some, None, slice_get, refl, sym, ap, subst, ◌∙◌, arith}
+use Rattle.std.proofs.Common.{◌≡◌, ◌≢◌, ℕ, ℤ, zero, suc, ◌<◌, ◌≤◌, Bool, true, false, List, [], ◌∷◌, length, Some, None, slice_get, refl, sym, ap, subst, ◌∙◌, arith}
 use Rattle.std.specs.List.{All}
-use Rattle.std.specs.Prelude.{pos, neg_ℤ, ◌^◌, ◌+ℤ◌, ◌≤ℤ◌, ◌==◌, if◌then◌else◌, Option, unwrap_or}
+use Rattle.std.specs.Prelude.{◌+ℤ◌, ◌==◌, if◌then◌else◌, Option, unwrap_or}
 use Rattle.std.specs.FinMap.{get}
 use Rattle.std.proofs.lemmas.Int.{ints}
 use Rattle.sv_value.specs.declared.stamps.Stamp.{Stamp}
@@ -9,7 +9,6 @@ use Rattle.sv_app.specs.declared.acts.Act.{Act}
 use Rattle.sv_app.specs.declared.acts.Act.TheVariants.{Insert, Update, Remove}
 use Rattle.sv_effect.specs.declared.cells.Cell.{Cell}
 use Rattle.sv_effect.specs.declared.cells.Cell.TheVariants.{Count, Last, Plain}
-use Rattle.sv_effect.specs.declared.ops.Write.{Write}
 use Rattle.sv_effect.specs.declared.ops.Write.TheVariants.{Delta, Set}
 use Rattle.sv_effect.specs.declared.ops.Op.{Op}
 use Rattle.sv_effect.specs.StampedTables.{StampedRow, StampedTables}
@@ -18,7 +17,6 @@ use Rattle.sv_effect.specs.Applied.{place_of, changes_from, changes_of, zero_row
 use Rattle.sv_effect.specs.Takes.{row_left, KeepsBounds, IsFound, FindsRows, as_insert, inserts}
 use Rattle.sv_value.specs.declared.values.Val.{Val}
 use Rattle.sv_value.specs.declared.values.Val.TheVariants.{Int}
-use Rattle.sv_app.specs.declared.places.Place.{Place}
 use Rattle.sv_app.specs.declared.requests.InitRow.{InitRow}
 use Rattle.sv_app.specs.declared.schemas.Column.{Column}
 use Rattle.sv_app.specs.declared.schemas.Kind.{Kind}
@@ -27,7 +25,7 @@ use Rattle.sv_app.specs.declared.schemas.Merge.TheVariants as merges
 use Rattle.sv_app.specs.declared.schemas.Ty.TheVariants as types
 use Rattle.sv_app.specs.Accepted.{AcceptedSchema}
 use Rattle.sv_app.specs.Conditions.{KeepsRule, KeepsTable, IsSmallRule, IsSmallTable}
-use Rattle.sv_app.specs.References.{refers, Leads, Step, Further}
+use Rattle.sv_app.specs.References.{Leads, Step, Further}
 use Rattle.sv_app.specs.Schema.{Declaration, Invariant}
 use Rattle.sv_effect.specs.TablesOfCut.{init_place}
 use Rattle.sv_effect.specs.RowChange.{written, made, each, key_values}
