@@ -19,7 +19,7 @@ use Rattle.sv_effect.specs.Cut.{as_deps}
 use Rattle.std.specs.Prelude.{max}
 use Rattle.sv_effect.specs.declared.ops.Need.{Need}
 use Rattle.sv_effect.specs.Applied.{applied}
-use Rattle.sv_effect.specs.Commutes.{TablesFit}
+use Rattle.sv_effect.specs.RowsFit.{TablesAreOf}
 use Rattle.sv_effect.specs.TablesOfCut.{tables_of}
 use Rattle.sv_core.specs.Clock.{latest_in}
 use Rattle.sv_core.specs.Takes.{CanTake}
@@ -198,7 +198,7 @@ pub keeps_published : (doc : Document) (h : History) (lists new_lists : List (Li
     → length counted_before ≡ 64 → Keeps doc h lists sites counted_before capacity → IsNext doc h e → IsNews doc h session site op e → 1 ≤ site → site ≤ doc.sites
     → new_lists ≡ set lists (site - 1) (published doc h site ++ op ∷ [])
     → slice_get sites (site - 1) ≡ Some old → ((o : ℕ) → counts new.cut o ≡ more (counts old.cut) site o) → new.clock ≡ max old.clock op.time
-    → new.store.tables ≡ applied doc.schema op old.store.tables → TablesFit doc.schema new.store.tables
+    → new.store.tables ≡ applied doc.schema op old.store.tables → TablesAreOf doc.schema new.store.tables
     → Keeps doc (e ∷ h) new_lists (set sites (site - 1) new) (set counted_before (session - 1) (get_or counted_before (session - 1) 0 + 1)) capacity
 keeps_published doc h lists new_lists sites before capacity session site op e old new long keeps next n one most lists_new was cut clock rows fit = record {
   sound = keeps.sound;

@@ -1,5 +1,5 @@
 -- What a schema of one counter table says of its columns, and of the changes and the initial rows that fit it.
-use Rattle.std.proofs.Common.{◌≡◌, ◌≢◌, ℕ, zero, suc, ◌≤◌, ◌==◌, ◌||◌, true, false, List, [], ◌∷◌, length, Some, slice_get, refl, sym, ap, subst, ◌∙◌, arith}
+use Rattle.std.proofs.Common.{◌≡◌, ◌≢◌, ℕ, zero, suc, ◌≤◌, ◌==◌, ◌||◌, true, false, List, [], ◌∷◌, length, Some, None, slice_get, refl, sym, ap, subst, ◌∙◌, arith}
 use Rattle.std.specs.Prelude.{ℤ}
 use Rattle.sv_value.specs.declared.values.Val.TheVariants.{Int as IntVal}
 use Rattle.sv_app.specs.declared.acts.Act.TheVariants.{Update}
@@ -10,16 +10,15 @@ use Rattle.sv_app.specs.declared.schemas.Column.{Column}
 use Rattle.sv_app.specs.declared.schemas.Kind.TheVariants.{Uoset}
 use Rattle.sv_app.specs.declared.schemas.Ty.{Ty}
 use Rattle.sv_app.specs.declared.schemas.Ty.TheVariants.{Int, Ints}
+use Rattle.sv_app.specs.Kinds.{allows}
 use Rattle.sv_app.specs.Schema.{Declaration}
 use Rattle.sv_effect.specs.declared.ops.RowEffect.{RowEffect}
 use Rattle.sv_effect.specs.declared.ops.Op.{Op}
 use Rattle.sv_effect.specs.RowChange.{is_annotated, key_values}
 use Rattle.sv_effect.specs.Applied.{place_of, columns_of, annotation_of, columns_in, annotated_in}
-use Rattle.sv_effect.specs.Fits.{HasType, KeyFits, allows, is_key_column, FitsSchema, AllFit, OpFits}
+use Rattle.sv_effect.specs.Fits.{HasType, KeyFits, is_key_column, FitsSchema, AllFit, OpFits}
 use Rattle.sv_effect.specs.Threatened.{is_plain_column, is_plain, any_threatened}
-use Rattle.sv_effect.specs.Laws.{HasNoLists}
 use Rattle.sv_store.specs.Initial.{ValuesFit, InitFits}
-use Rattle.sv_store.specs.Takes.{IsNarrowSchema}
 use Rattle.sv_core.specs.CounterTable.{AreCounterColumns, IsKeyName, HasCounterColumns, IsCounterSchema}
 use Rattle.sv_core.specs.Run.{key_of, change_by}
 use Rattle.sv_core.specs.Sound.{IsInitRow}
@@ -32,7 +31,10 @@ pub record Counter (schema : List Declaration) : Type 0 where
   pub only : schema ≡ table ∷ []
   pub columns : table.columns ≡ key ∷ counter ∷ []
   pub named : table.key ≡ name ∷ []
+  pub number : table.name.num ≡ 0
   pub kind : table.kind ≡ Uoset
+  pub one_key : table.second_key ≡ None
+  pub free : table.invs ≡ []
   pub are : AreCounterColumns key counter
   pub is_key : IsKeyName key name
 
@@ -47,35 +49,7 @@ counter_in_schema (table ∷ []) is = from table.columns refl table.key refl is.
     from (a ∷ b ∷ x ∷ xs) c names n has = absurd has
     from (a ∷ b ∷ []) c [] n has = absurd has
     from (a ∷ b ∷ []) c (name ∷ y ∷ ys) n has = absurd has
-    from (a ∷ b ∷ []) c (name ∷ []) n has = record { table = table; key = a; counter = b; name = name; only = refl; columns = c; named = n; kind = is.kind; are = has.0; is_key = has.1 }
-
--- what stands in a list of one, and of two
-pub one_get : {A : Type 0} (xs : List A) (a x : A) (n : ℕ) → xs ≡ a ∷ [] → slice_get xs n ≡ Some x → (n ≡ 0) × (a ≡ x)
-one_get {A} xs a x n only get = from n (ap (λ l. slice_get l n) (sym only) ∙ get)
-  where
-    from : (n : ℕ) → slice_get (a ∷ []) n ≡ Some x → (n ≡ 0) × (a ≡ x)
-    from zero e = (refl, cc)
-    from (suc n) e = absurd cc
-
-two_holds : (P : Column → Type 0) (a b : Column) (x : Column) (n : ℕ) → P a → P b → slice_get (a ∷ b ∷ []) n ≡ Some x → P x
-two_holds P a b x zero p q e = let same : a ≡ x = cc in subst P same p
-two_holds P a b x (suc zero) p q e = let same : b ≡ x = cc in subst P same q
-two_holds P a b x (suc (suc n)) p q e = absurd cc
-
-not_lists : (t : Ty) → t ≡ Int → t ≢ Ints
-not_lists t is e = let both : Int ≡ Ints = sym is ∙ e in absurd cc
-
-pub narrow : (schema : List Declaration) → Counter schema → IsNarrowSchema schema
-narrow schema c number table get =
-    let is : c.table ≡ table = (one_get schema c.table table number c.only get).1 in
-    let long : length table.columns ≡ 2 = ap (λ t. length t.columns) (sym is) ∙ ap length c.columns in
-    omega (arith, long)
-
-pub no_lists : (schema : List Declaration) → Counter schema → HasNoLists schema
-no_lists schema c number place table column get at =
-    let is : c.table ≡ table = (one_get schema c.table table number c.only get).1 in
-    two_holds (λ x. x.ty ≢ Ints) c.key c.counter column place (not_lists c.key.ty c.are.key_type) (not_lists c.counter.ty c.are.counter_type)
-    (ap (λ cs. slice_get cs place) (sym (ap (λ t. t.columns) (sym is) ∙ c.columns)) ∙ at)
+    from (a ∷ b ∷ []) c (name ∷ []) n has = record { table = table; key = a; counter = b; name = name; only = refl; columns = c; named = n; number = is.number; kind = is.kind; one_key = is.one_key; free = is.free; are = has.0; is_key = has.1 }
 
 pub first_table : (schema : List Declaration) → (c : Counter schema) → slice_get schema 0 ≡ Some c.table
 first_table schema c = ap (λ s. slice_get s 0) c.only

@@ -1,3 +1,4 @@
+pub mod AcceptLaws
 pub mod AskLaws
 pub mod BirthLaws
 pub mod BoundLaws

@@ -1,16 +1,21 @@
 -- The world of a sound document to which nothing has happened.
-use Rattle.std.proofs.Common.{◌≡◌, ℕ, zero, suc, ◌*◌, ◌-◌, ◌≤◌, List, [], length, get_or, Some, slice_get, refl, sym, ap, ◌∙◌, subst, reverse, arith}
+use Rattle.std.proofs.Common.{◌≡◌, ℕ, zero, suc, ◌*◌, ◌-◌, ◌≤◌, List, [], length, get_or, Some, slice_get, refl, sym, ap, ◌∙◌, subst, reverse, arith, ◌⊎◌, inl, inr, ◌+◌, ◌∷◌, ◌++◌}
+use Rattle.std.proofs.lemmas.List.{length_push}
 use Rattle.std.specs.Prelude.{replicate}
 use Rattle.sv_effect.specs.declared.ops.Op.{Op}
 use Rattle.sv_core.specs.declared.sites.SiteState.{SiteState}
 use Rattle.sv_core.specs.declared.entries.Entry.{Entry}
 use Rattle.sv_core.specs.Document.{Document}
 use Rattle.sv_core.specs.Sound.{Sound}
+use Rattle.sv_app.specs.Schema.{Declaration}
+use Rattle.sv_effect.specs.StampedTables.{StampedTables}
 use Rattle.sv_effect.specs.TablesOfCut.{all_to, tables_held}
 use Rattle.sv_effect.specs.Cut.{empty}
 use Rattle.sv_core.specs.Clock.{latest_of}
 use Rattle.sv_core.specs.Takes.{CanStart}
-use Rattle.sv_core.proofs.CounterLaws.{Counter, counter_in_schema, narrow, init_fits}
+use Rattle.sv_core.proofs.ListLaws.{get_pushed}
+use Rattle.sv_core.proofs.CounterLaws.{Counter, counter_in_schema, init_fits}
+use Rattle.sv_core.proofs.AcceptLaws.{accepted}
 use Rattle.sv_core.specs.WorldState.{IsFresh, AreFresh, Keeps}
 
 none_in : (n place : ℕ) (ops : List Op) → slice_get (replicate n []) place ≡ Some ops → ops ≡ []
@@ -48,7 +53,7 @@ keeps_start doc history lists sites counts capacity sound none lists_are fresh c
 -- a store can start with the rows of a sound document
 pub can_start : (doc : Document) → Sound doc → CanStart doc.schema doc.init
 can_start doc sound = record {
-  narrow = narrow doc.schema c;
+  accepted = accepted doc.schema c;
   fits = λ i d lt. init_fits doc.schema c (get_or doc.init i d) (sound.rows i d lt);
   distinct = sound.distinct;
   few = omega (arith, sound.few);
@@ -56,3 +61,12 @@ can_start doc sound = record {
   where
     c : Counter doc.schema
     c = counter_in_schema doc.schema sound.schema
+
+-- one fresh site more
+pub fresh_more : (count : ℕ) (schema : List Declaration) (start : StampedTables) (sites : List SiteState) (state : SiteState) → AreFresh count schema start sites → IsFresh schema start state
+    → AreFresh (count + 1) schema start (sites ++ state ∷ [])
+fresh_more count schema start sites state are is = record { long = length_push sites state ∙ ap (λ n. n + 1) are.long; all = λ place x get. from place x (get_pushed sites state place x get) }
+  where
+    from : (place : ℕ) (x : SiteState) → (slice_get sites place ≡ Some x) ⊎ ((place ≡ length sites) × (state ≡ x)) → IsFresh schema start x
+    from place x (inl old) = are.all place x old
+    from place x (inr new) = subst (IsFresh schema start) new.1 is

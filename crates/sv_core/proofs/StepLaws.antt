@@ -11,7 +11,7 @@ use Rattle.sv_core.specs.declared.entries.Entry.{Entry}
 use Rattle.sv_effect.specs.Applied.{applied}
 use Rattle.sv_effect.specs.TablesOfCut.{tables_of}
 use Rattle.sv_effect.specs.TablesOfCut.{all_to}
-use Rattle.sv_effect.specs.Commutes.{TablesFit}
+use Rattle.sv_effect.specs.RowsFit.{TablesAreOf}
 use Rattle.sv_core.specs.declared.sites.SiteState.{SiteState}
 use Rattle.sv_core.specs.Clock.{latest_of, latest_in}
 use Rattle.sv_core.specs.Sound.{Sound}
@@ -36,7 +36,7 @@ clock_stays doc h e s legal = λ i. latest_of (all_to (λ o. held_since doc 1 (e
 -- a site to which the entry brings the next operation of an origin
 pub stands_brought : (doc : Document) (h : History) (e : Entry) (s o : ℕ) (op : Op) (old new : SiteState) → Sound doc → Legal doc (e ∷ h) → Stands doc h s old
     → ((x : ℕ) → cut_of (e ∷ h) s x ≡ more (cut_of h s) o x) → slice_get (published doc (e ∷ h) o) (cut_of h s o) ≡ Some op
-    → ((x : ℕ) → counts new.cut x ≡ more (counts old.cut) o x) → new.clock ≡ max old.clock op.time → new.store.tables ≡ applied doc.schema op old.store.tables → TablesFit doc.schema new.store.tables
+    → ((x : ℕ) → counts new.cut x ≡ more (counts old.cut) o x) → new.clock ≡ max old.clock op.time → new.store.tables ≡ applied doc.schema op old.store.tables → TablesAreOf doc.schema new.store.tables
     → Stands doc (e ∷ h) s new
 stands_brought doc h e s o op old new sound legal was grows next cut clock tables fit = record {
   cut = λ x. cut x ∙ (λ i. more (λ y. was.cut y i) o x) ∙ sym (grows x);

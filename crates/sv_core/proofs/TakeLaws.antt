@@ -11,11 +11,11 @@ use Rattle.sv_effect.specs.StampedTables.{StampedRow}
 use Rattle.sv_effect.specs.Cut.{Cut, Medium, held}
 use Rattle.sv_effect.specs.Applied.{Change, changes_from, with_changes}
 use Rattle.sv_effect.specs.TablesOfCut.{is_place, all_to, named_by, row_at, tables_of}
-use Rattle.sv_effect.specs.Commutes.{TablesFit}
+use Rattle.sv_effect.specs.RowsFit.{TablesAreOf}
 use Rattle.sv_effect.specs.Fits.{CountsFit}
 use Rattle.sv_effect.proofs.PlaceListLaws.{among, among-append}
 use Rattle.sv_store.specs.Stored.{Stored}
-use Rattle.sv_store.specs.Takes.{row_left, KeepsBounds, IsFound, FindsRows, inserts}
+use Rattle.sv_effect.specs.Takes.{row_left, KeepsBounds, IsFound, FindsRows, inserts}
 use Rattle.sv_core.specs.Document.{Document}
 use Rattle.sv_core.specs.Run.{key_of, change_by}
 use Rattle.sv_core.specs.Sound.{Sound}
@@ -25,7 +25,7 @@ use Rattle.sv_core.specs.Legal.{Legal}
 use Rattle.sv_core.proofs.ClockLaws.{get_untaken}
 use Rattle.sv_core.proofs.RoomLaws.{total-le, stand, stand_few, answers_few}
 use Rattle.sv_core.proofs.BirthLaws.{Birth, birth, init_places, place_by, get-of}
-use Rattle.sv_core.proofs.CounterLaws.{Counter, counter_in_schema, narrow, no_lists, op_fits}
+use Rattle.sv_core.proofs.CounterLaws.{Counter, counter_in_schema, op_fits}
 use Rattle.sv_core.proofs.BoundLaws.{AreSmall, small_one, within64, all_get, init_at, counts_fit}
 use Rattle.sv_core.proofs.MergeLaws.{sized, tables_more}
 
@@ -71,10 +71,8 @@ found_some o row e = subst (IsFound Update) (sym e) tt
 
 -- the next operation of an origin can be taken where the tables are those of the cut
 pub takes : (doc : Document) (h : History) (cut : Cut) (o : ℕ) (op : Op) (store : Stored) → Sound doc → Legal doc h → slice_get (published doc h o) (cut o) ≡ Some op
-    → store.tables ≡ tables_of doc.schema doc.init (published doc h) cut → TablesFit doc.schema store.tables → CanTake doc.schema op store
+    → store.tables ≡ tables_of doc.schema doc.init (published doc h) cut → TablesAreOf doc.schema store.tables → CanTake doc.schema op store
 takes doc h cut o op store sound legal next tables fit = record {
-  narrow = narrow doc.schema c;
-  lists = no_lists doc.schema c;
   rows = fit;
   fits = op_fits doc.schema c b.number b.delta op b.only b.timed;
   found = subst (λ es. FindsRows doc.schema (changes_from op 0 es) store.tables) (sym b.only) (found_some (get store.tables p) (row_at doc.schema doc.init (held m cut) p) kept, tt);

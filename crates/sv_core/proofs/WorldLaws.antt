@@ -16,7 +16,7 @@ use Rattle.sv_core.specs.declared.entries.Entry.TheVariants.{Apply}
 use Rattle.sv_effect.specs.Cut.{Cut}
 use Rattle.std.specs.Prelude.{max}
 use Rattle.sv_effect.specs.Applied.{applied}
-use Rattle.sv_effect.specs.Commutes.{TablesFit}
+use Rattle.sv_effect.specs.RowsFit.{TablesAreOf}
 use Rattle.sv_core.specs.Takes.{CanTake}
 use Rattle.sv_core.specs.Sound.{Sound}
 use Rattle.sv_core.specs.History.{History, cut_of, published, answers}
@@ -208,7 +208,7 @@ pub keeps_applied : (doc : Document) (h : History) (lists : List (List Op)) (sit
     → Keeps doc h lists sites answers capacity → 1 ≤ site → site ≤ doc.sites → delivered doc h site packet ≡ Applied
     → slice_get (published doc h (origin packet)) (number packet) ≡ Some op → slice_get sites (site - 1) ≡ Some old
     → ((o : ℕ) → counts new.cut o ≡ more (counts old.cut) (origin packet) o) → new.clock ≡ max old.clock op.time → new.store.tables ≡ applied doc.schema op old.store.tables
-    → TablesFit doc.schema new.store.tables → Keeps doc (Apply site packet ∷ h) lists (set sites (site - 1) new) answers capacity
+    → TablesAreOf doc.schema new.store.tables → Keeps doc (Apply site packet ∷ h) lists (set sites (site - 1) new) answers capacity
 keeps_applied doc h lists sites answers capacity site packet op old new keeps one most e stands was cut clock rows fit = record {
   sound = keeps.sound;
   legal = (apply, keeps.legal);

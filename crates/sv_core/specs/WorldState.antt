@@ -6,7 +6,7 @@ use Rattle.sv_value.specs.Cuts.{counts}
 use Rattle.sv_app.specs.Schema.{Declaration}
 use Rattle.sv_effect.specs.declared.ops.Op.{Op}
 use Rattle.sv_effect.specs.StampedTables.{StampedTables}
-use Rattle.sv_effect.specs.Commutes.{TablesFit}
+use Rattle.sv_effect.specs.RowsFit.{TablesAreOf}
 use Rattle.sv_core.specs.Clock.{latest_in}
 use Rattle.sv_core.specs.declared.sites.SiteState.{SiteState}
 use Rattle.sv_core.specs.declared.entries.Entry.{Entry}
@@ -27,7 +27,7 @@ pub record Stands (doc : Document) (h : History) (site : ℕ) (state : SiteState
   pub cut : (o : ℕ) → counts state.cut o ≡ cut_of h site o
   pub clock : state.clock ≡ latest_in (published doc h) (cut_of h site)
   pub rows : state.store.tables ≡ tables_at doc h site
-  pub fit : TablesFit doc.schema state.store.tables
+  pub fit : TablesAreOf doc.schema state.store.tables
 
 -- the history is legal, and the lists of operations, the sites and the counts of answers are those of it;
 -- there is room for as many entries as the requests can bring
@@ -59,7 +59,7 @@ pub record IsFresh (schema : List Declaration) (start : StampedTables) (state : 
   pub cut : (o : ℕ) → counts state.cut o ≡ 0
   pub clock : state.clock ≡ 0
   pub rows : state.store.tables ≡ start
-  pub fit : TablesFit schema state.store.tables
+  pub fit : TablesAreOf schema state.store.tables
 
 -- so many of them
 pub record AreFresh (count : ℕ) (schema : List Declaration) (start : StampedTables) (sites : List SiteState) : Type 0 where

@@ -2,7 +2,7 @@ ghost use Rattle.std.specs.Prelude.{◌≡◌, ◌+◌, ◌<◌, ◌∷◌, ◌+
 ghost use Rattle.sv_value.specs.Cuts.{counts, more, origin};
 ghost use Rattle.sv_app.specs.Schema.{schema_of};
 ghost use Rattle.sv_effect.specs.Applied.{applied};
-ghost use Rattle.sv_effect.specs.Commutes.{TablesFit};
+ghost use Rattle.sv_effect.specs.RowsFit.{TablesAreOf};
 ghost use Rattle.sv_core.specs.Takes.{CanTake};
 
 use sv_app::App;
@@ -36,7 +36,7 @@ impl SiteState {
         ensures cut { (o : ℕ) → counts self.new.cut o ≡ more (counts self.old.cut) (origin packet.now) o }
         ensures clock { self.new.clock ≡ max self.old.clock op.now.time }
         ensures tables { self.new.store.tables ≡ applied (schema_of app.now.tables.items) op.now self.old.store.tables }
-        ensures kept { TablesFit (schema_of app.now.tables.items) self.new.store.tables }
+        ensures of_app { TablesAreOf (schema_of app.now.tables.items) self.new.store.tables }
     {
         add(&mut self.cut, packet);
         self.clock = self.clock.max(op.time);
@@ -56,7 +56,7 @@ impl SiteState {
         ensures cut { OnOk result ((o : ℕ) → counts self.new.cut o ≡ more (counts self.old.cut) (origin packet.now) o) }
         ensures clock { OnOk result (self.new.clock ≡ max self.old.clock op.time) }
         ensures tables { OnOk result (self.new.store.tables ≡ applied (schema_of app.now.tables.items) op self.old.store.tables) }
-        ensures kept { OnOk result (TablesFit (schema_of app.now.tables.items) self.new.store.tables) }
+        ensures of_app { OnOk result (TablesAreOf (schema_of app.now.tables.items) self.new.store.tables) }
         ensures published { OnOk result (published.new.items ≡ published.old.items ++ op ∷ []) }
         ensures state { OnErr result (self.new ≡ self.old) }
         ensures stays { OnErr result (published.new.items ≡ published.old.items) }

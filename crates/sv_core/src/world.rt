@@ -5,7 +5,7 @@ ghost use Rattle.sv_app.specs.Schema.{schema_of};
 ghost use Rattle.sv_effect.specs.Cut.{empty};
 ghost use Rattle.sv_effect.specs.TablesOfCut.{tables_held};
 ghost use Rattle.sv_core.specs.Takes.{CanStart};
-ghost use Rattle.sv_core.specs.WorldState.{AreFresh};
+ghost use Rattle.sv_core.specs.WorldState.{IsFresh, AreFresh};
 
 use crate::docs::Doc;
 use crate::entries::{Delivered, Entry, Outcome, Reply};
@@ -56,7 +56,20 @@ fn empty_lists(alloc: Global, count: u8) -> Result<Vec<Vec<Op>>, NoMemory>
     Ok(lists)
 }
 
+/// A site that has the initial rows, and nothing else.
+fn fresh_site(alloc: Global, app: &App, init: &[InitRow]) -> Result<SiteState, NoMemory>
+    requires { CanStart (schema_of app.now.tables.items) init.now }
+    ensures { IfOk result (λ state. IsFresh (schema_of app.now.tables.items) (tables_held (schema_of app.now.tables.items) init.now empty) state) }
+{
+    Ok(SiteState {
+        cut: Cut::empty(),
+        clock: 0,
+        store: ListStore::start(alloc, app, init, 0)?,
+    })
+}
+
 /// So many sites that have the initial rows, and nothing else.
+#[tactic(auto, using(crate::proofs::StartLaws::fresh_more))]
 fn fresh_sites(
     alloc: Global,
     count: u8,
@@ -68,11 +81,7 @@ fn fresh_sites(
 {
     let mut sites = Vec::new(alloc);
     for _ in 0..count {
-        sites.push(SiteState {
-            cut: Cut::empty(),
-            clock: 0,
-            store: ListStore::start(alloc, app, init, 0)?,
-        })?;
+        sites.push(fresh_site(alloc, app, init)?)?;
     }
     Ok(sites)
 }

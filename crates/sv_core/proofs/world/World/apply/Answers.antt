@@ -5,7 +5,7 @@ use Rattle.sv_value.specs.Cuts.{origin, number}
 use Rattle.sv_core.specs.declared.entries.Delivered.TheVariants.{Applied}
 use Rattle.sv_core.specs.declared.entries.Entry.TheVariants.{Apply}
 use Rattle.sv_effect.specs.Applied as applied_all
-use Rattle.sv_effect.specs.Commutes.{TablesFit}
+use Rattle.sv_effect.specs.RowsFit.{TablesAreOf}
 use Rattle.sv_core.specs.Document.{document_of}
 use Rattle.sv_core.specs.History.{History, published}
 use Rattle.sv_core.specs.Takes.{CanTake}
@@ -98,7 +98,7 @@ invariant_of-self c =
     (λ i. slice_get (sym ops i) (sym c.number-in-Ok.ensures i)) ∙ read_at c.list_of.result.now c.number-in-Ok.result c.index-list_of-number.result inside c.index-list_of-number.is in
     let rows : c.bring.new.self.store.tables ≡ applied_all.applied doc.schema c.index-list_of-number.result c.index_mut.result.now.store.tables =
     subst (λ d. c.bring.new.self.store.tables ≡ applied_all.applied (document_of d).schema c.index-list_of-number.result c.index_mut.result.now.store.tables) c.deref-in-Ok.ensures c.bring.ensures.tables in
-    let fit : TablesFit doc.schema c.bring.new.self.store.tables = subst (λ d. TablesFit (document_of d).schema c.bring.new.self.store.tables) c.deref-in-Ok.ensures c.bring.ensures.kept in
+    let fit : TablesAreOf doc.schema c.bring.new.self.store.tables = subst (λ d. TablesAreOf (document_of d).schema c.bring.new.self.store.tables) c.deref-in-Ok.ensures c.bring.ensures.of_app in
     let kept = keeps_applied doc h (map (λ v. v.items) c.self.inside.published.items) c.self.inside.sites.items c.self.inside.answered (vec_capacity c.self.inside.history) c.args.site c.args.packet.now
     c.index-list_of-number.result c.index_mut.result.now c.bring.new.self k one most applied op read.at c.bring.ensures.cut c.bring.ensures.clock rows fit in
     subst (λ g. Keeps doc g (map (λ v. v.items) c.self.inside.published.items) (set c.self.inside.sites.items (c.number.result - 1) c.bring.new.self) c.self.inside.answered (vec_capacity c.push.new.self))

@@ -4,7 +4,7 @@ use Rattle.std.specs.Vec.{vec_capacity}
 use Rattle.sv_value.specs.Cuts.{counts, more, origin}
 use Rattle.sv_effect.specs.declared.ops.Op.{Op}
 use Rattle.sv_effect.specs.Applied.{applied}
-use Rattle.sv_effect.specs.Commutes.{TablesFit}
+use Rattle.sv_effect.specs.RowsFit.{TablesAreOf}
 use Rattle.sv_core.specs.Document.{document_of}
 use Rattle.sv_core.specs.History.{History, answered, published}
 use Rattle.sv_core.specs.Legal.{IsNext}
@@ -126,7 +126,7 @@ invariant_of-self-in-Ok c =
     keeps_published doc h lists new_lists c.self.inside.sites.items c.self.inside.answered (vec_capacity c.self.inside.history) c.args.session c.args.site c.args.op c.args.entry c.index_mut.result.now c.publish.new.self
     c.self.told k next news one most lists_new read.at cut c.in_ok-publish.ensures.clock
     (subst (λ d. c.publish.new.self.store.tables ≡ applied (document_of d).schema c.args.op c.index_mut.result.now.store.tables) c.deref.ensures c.in_ok-publish.ensures.tables)
-    (subst (λ d. TablesFit (document_of d).schema c.publish.new.self.store.tables) c.deref.ensures c.in_ok-publish.ensures.kept) in
+    (subst (λ d. TablesAreOf (document_of d).schema c.publish.new.self.store.tables) c.deref.ensures c.in_ok-publish.ensures.of_app) in
     subst (λ g. Keeps doc g new_lists (set c.self.inside.sites.items (c.number.result - 1) c.publish.new.self) new_counts (vec_capacity c.push.new.self))
     (sym (ap reverse c.in-Ok.ensures.items ∙ reverse_push c.self.inside.history.items c.args.entry))
     (keeps_room doc (c.args.entry ∷ h) new_lists (set c.self.inside.sites.items (c.number.result - 1) c.publish.new.self) new_counts (vec_capacity c.self.inside.history) (vec_capacity c.push.new.self) c.in-Ok.ensures.capacity
