@@ -102,11 +102,7 @@ fn reply(alloc: Global, value: Expr) -> Result<(u32, u8), Fail> {
 }
 
 fn sum(alloc: Global, left: Expr, right: Expr) -> Result<Expr, Fail> {
-    Ok(Expr::Add(
-        Box::new(alloc, left)?,
-        Box::new(alloc, right)?,
-        at(9),
-    ))
+    Ok(Expr::Add(Box::new(alloc, left)?, Box::new(alloc, right)?, at(9)))
 }
 
 #[test]
@@ -123,7 +119,10 @@ fn values_are_refused(rt: HostRuntime) -> Result<(), Fail> {
     };
     assert_eq!(rt; reply(alloc, field)?, (20, 5));
     assert_eq!(rt; reply(alloc, sum(alloc, number(20), text(24)?)?)?, (24, 5));
-    assert_eq!(rt; reply(alloc, sum(alloc, var(b"n", 20)?, var(b"n", 24)?)?)?, (0, 0));
+    assert_eq!(rt;
+        reply(alloc, sum(alloc, var(b"n", 20)?, var(b"n", 24)?)?)?,
+        (0, 0)
+    );
     Ok(())
 }
 
@@ -143,8 +142,14 @@ fn compare(alloc: Global, left: Expr, rel: Rel, right: Expr) -> Result<(u32, u8)
 fn comparisons_are_refused(rt: HostRuntime) -> Result<(), Fail> {
     let alloc = rt.alloc();
     assert_eq!(rt; compare(alloc, var(b"s", 20)?, Rel::Eq, text(24)?)?, (0, 0));
-    assert_eq!(rt; compare(alloc, var(b"s", 20)?, Rel::Lt, text(24)?)?, (20, 5));
-    assert_eq!(rt; compare(alloc, var(b"n", 20)?, Rel::Ne, text(24)?)?, (20, 5));
+    assert_eq!(rt;
+        compare(alloc, var(b"s", 20)?, Rel::Lt, text(24)?)?,
+        (20, 5)
+    );
+    assert_eq!(rt;
+        compare(alloc, var(b"n", 20)?, Rel::Ne, text(24)?)?,
+        (20, 5)
+    );
     Ok(())
 }
 
@@ -157,10 +162,22 @@ fn fetch(alloc: Global, row: &[u8], table: &[u8], key: Vec<Expr>) -> Result<Stmt
 #[test]
 fn rows_are_refused(rt: HostRuntime) -> Result<(), Fail> {
     let alloc = rt.alloc();
-    assert_eq!(rt; of(alloc, fetch(alloc, b"r", b"t", one(alloc, number(26))?)?)?, (0, 0));
-    assert_eq!(rt; of(alloc, fetch(alloc, b"r", b"u", one(alloc, number(26))?)?)?, (24, 2));
-    assert_eq!(rt; of(alloc, fetch(alloc, b"n", b"t", one(alloc, number(26))?)?)?, (20, 3));
-    assert_eq!(rt; of(alloc, fetch(alloc, b"r", b"t", one(alloc, text(26)?)?)?)?, (26, 5));
+    assert_eq!(rt;
+        of(alloc, fetch(alloc, b"r", b"t", one(alloc, number(26))?)?)?,
+        (0, 0)
+    );
+    assert_eq!(rt;
+        of(alloc, fetch(alloc, b"r", b"u", one(alloc, number(26))?)?)?,
+        (24, 2)
+    );
+    assert_eq!(rt;
+        of(alloc, fetch(alloc, b"n", b"t", one(alloc, number(26))?)?)?,
+        (20, 3)
+    );
+    assert_eq!(rt;
+        of(alloc, fetch(alloc, b"r", b"t", one(alloc, text(26)?)?)?)?,
+        (26, 5)
+    );
     let mut keys = one(alloc, number(26))?;
     keys.push(number(28))?;
     assert_eq!(rt; of(alloc, fetch(alloc, b"r", b"t", keys)?)?, (24, 5));
@@ -198,8 +215,14 @@ fn update(alloc: Global, column: &[u8], value: Expr) -> Result<(u32, u8), Fail> 
 #[test]
 fn sets_are_refused(rt: HostRuntime) -> Result<(), Fail> {
     let alloc = rt.alloc();
-    assert_eq!(rt; update(alloc, b"w", Expr::Old(ident(b"w", 38)?, at(34)))?, (0, 0));
-    assert_eq!(rt; update(alloc, b"w", Expr::Old(ident(b"x", 38)?, at(34)))?, (38, 2));
+    assert_eq!(rt;
+        update(alloc, b"w", Expr::Old(ident(b"w", 38)?, at(34)))?,
+        (0, 0)
+    );
+    assert_eq!(rt;
+        update(alloc, b"w", Expr::Old(ident(b"x", 38)?, at(34)))?,
+        (38, 2)
+    );
     assert_eq!(rt; update(alloc, b"w", number(34))?, (34, 5));
     assert_eq!(rt; update(alloc, b"k", number(34))?, (30, 5));
     assert_eq!(rt; update(alloc, b"x", number(34))?, (30, 2));
