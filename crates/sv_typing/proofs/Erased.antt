@@ -14,8 +14,32 @@ use Rattle.sv_app.specs.Firsts.{is_same_place}
 use Rattle.sv_app.specs.Lookups.{is_named, column_of, table_of, is_key, holds_of, place_of, table_names, column_names}
 use Rattle.sv_app.specs.References.{referred, refers}
 use Rattle.sv_app.specs.Schema.{Rule, Bound, OneOf, Different, Refers, Invariant, Declaration}
-use Rattle.sv_app.specs.Typing.{fault_if, repeats, faults, table_faults, key_faults, column_faults, rule_faults, no_column, at_column, another_key, side_faults, second_side, shape_faults, check_faults,
-  list_faults, unique_faults, differs, referring_faults, referred_faults, target_faults, is_text, is_numdelta, is_same_type, is_merged_wrong}
+use Rattle.sv_app.specs.Typing.{
+  fault_if,
+  repeats,
+  faults,
+  table_faults,
+  key_faults,
+  column_faults,
+  rule_faults,
+  no_column,
+  at_column,
+  another_key,
+  side_faults,
+  second_side,
+  shape_faults,
+  check_faults,
+  list_faults,
+  unique_faults,
+  differs,
+  referring_faults,
+  referred_faults,
+  target_faults,
+  is_text,
+  is_numdelta,
+  is_same_type,
+  is_merged_wrong,
+}
 use Rattle.sv_typing.proofs.NotedLaws.{flat_mapped}
 
 abbrev pub bare : Ident → Ident
@@ -125,8 +149,8 @@ columns_wrong_bare : (t : Declaration) → column_faults (bare_table t) ≡ colu
 columns_wrong_bare t =
     let names : repeats (column_names (bare_table t)) ≡ repeats (column_names t) = ap repeats (columns_bare t) ∙ repeats_bare (column_names t) in
     let merges : flat_map (λ c. fault_if (is_merged_wrong (bare_table t) c) c.name.spot Typing) (map bare_column t.columns) ≡ flat_map (λ c. fault_if (is_merged_wrong t c) c.name.spot Typing) t.columns =
-        flat_bare bare_column (λ c. fault_if (is_merged_wrong (bare_table t) c) c.name.spot Typing) (λ c. fault_if (is_merged_wrong t c) c.name.spot Typing) t.columns
-        (λ c. ap (λ b. fault_if b c.name.spot Typing) (merged_bare t c)) in
+    flat_bare bare_column (λ c. fault_if (is_merged_wrong (bare_table t) c) c.name.spot Typing) (λ c. fault_if (is_merged_wrong t c) c.name.spot Typing) t.columns
+    (λ c. ap (λ b. fault_if b c.name.spot Typing) (merged_bare t c)) in
     (λ i. names i ++ merges i)
 
 side_bare : (t : Declaration) (side : Option Ident) → side_faults (bare_table t) (option_map bare side) ≡ side_faults t side
@@ -181,7 +205,7 @@ target_bare : (schema : List Declaration) (table target : Ident) → target_faul
 target_bare schema table target =
     let missing = meant_bare schema table (λ other. is_none (column_of other (bare target))) (λ other. is_none (column_of other target)) (λ other. no_column_in other target) in
     let beside = meant_bare schema table (λ other. holds_of (column_of other (bare target)) (λ _. not (is_key other (bare target)))) (λ other. holds_of (column_of other target) (λ _. not (is_key other target)))
-        (λ other. beside_bare other target) in
+    (λ other. beside_bare other target) in
     (λ i. fault_if (missing i) target.spot Unknown ++ fault_if (beside i) target.spot Typing)
 
 rule_bare : (schema : List Declaration) (t : Declaration) (rule : Rule) → rule_faults (bare_schema schema) (bare_table t) (bare_rule rule) ≡ rule_faults schema t rule
@@ -215,7 +239,7 @@ any_bare f p q xs same = any_map f p xs ∙ (λ i. list_any (λ x. same x i) xs)
 pub refers_bare : (schema : List Declaration) (a b : ℕ) → refers (bare_schema schema) a b ≡ refers schema a b
 refers_bare schema a b =
     let inner : (t : Declaration) → list_any (λ inv. holds_of (referred (bare_schema schema) inv.rule) (λ place. place == b)) (map bare_invariant t.invs) ≡ list_any (λ inv. holds_of (referred schema inv.rule) (λ place. place == b)) t.invs =
-        λ t. any_bare bare_invariant (λ inv. holds_of (referred (bare_schema schema) inv.rule) (λ place. place == b)) (λ inv. holds_of (referred schema inv.rule) (λ place. place == b)) t.invs
-        (λ inv. ap (λ o. holds_of o (λ place. place == b)) (referred_to_bare schema inv.rule)) in
+    λ t. any_bare bare_invariant (λ inv. holds_of (referred (bare_schema schema) inv.rule) (λ place. place == b)) (λ inv. holds_of (referred schema inv.rule) (λ place. place == b)) t.invs
+    (λ inv. ap (λ o. holds_of o (λ place. place == b)) (referred_to_bare schema inv.rule)) in
     let test : Declaration → Bool = λ t. list_any (λ inv. holds_of (referred (bare_schema schema) inv.rule) (λ place. place == b)) t.invs in
     ap (λ o. holds_of o test) (slice_get-map bare_table schema a) ∙ holds_map bare_table (slice_get schema a) test ∙ (λ i. holds_of (slice_get schema a) (λ t. inner t i))

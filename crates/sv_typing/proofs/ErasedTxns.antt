@@ -23,15 +23,94 @@ use Rattle.sv_app.specs.Schema.{Declaration}
 use Rattle.sv_app.specs.Scopes.{Scope, meaning_of, knowing, updating, parameter, opening}
 use Rattle.sv_app.specs.Statements.{inner_statements, block_statements}
 use Rattle.sv_app.specs.TermTypes.{type_meant, column_type, field_type, old_type, type_of, spot_of, are_apart}
-use Rattle.sv_app.specs.Trees.{Term, Number, Words, Variable, Field, Old, Minus, Sum, Difference, Product, Test, Compare, Negation, Both, Either,
-  Command, Declare, Assign, Fetch, Choose, ForRows, ForEach, Insert, Update, Remove, Abort, Reply, Block, Finish, Then, Transaction}
+use Rattle.sv_app.specs.Trees.{
+  Term,
+  Number,
+  Words,
+  Variable,
+  Field,
+  Old,
+  Minus,
+  Sum,
+  Difference,
+  Product,
+  Test,
+  Compare,
+  Negation,
+  Both,
+  Either,
+  Command,
+  Declare,
+  Assign,
+  Fetch,
+  Choose,
+  ForRows,
+  ForEach,
+  Insert,
+  Update,
+  Remove,
+  Abort,
+  Reply,
+  Block,
+  Finish,
+  Then,
+  Transaction,
+}
 use Rattle.sv_app.specs.TxnNames.{plain_name, row_name, declared_by, declares, names_of}
-use Rattle.sv_app.specs.TxnTyping.{value_faults, no_column_of, field_faults, old_faults, operand_faults, term_faults, is_order, comparison_faults, test_faults, condition_faults, all_term_faults,
-  no_table, at_table, kind_faults, count_faults, type_faults, each_type_faults, value_list_faults, set_faults, sets_faults, assignment_faults, is_list, walk_faults, type_if_right, declared_type,
-  behind, command_faults, inner_faults, block_faults, txn_faults, txns_faults}
+use Rattle.sv_app.specs.TxnTyping.{
+  value_faults,
+  no_column_of,
+  field_faults,
+  old_faults,
+  operand_faults,
+  term_faults,
+  is_order,
+  comparison_faults,
+  test_faults,
+  condition_faults,
+  all_term_faults,
+  no_table,
+  at_table,
+  kind_faults,
+  count_faults,
+  type_faults,
+  each_type_faults,
+  value_list_faults,
+  set_faults,
+  sets_faults,
+  assignment_faults,
+  is_list,
+  walk_faults,
+  type_if_right,
+  declared_type,
+  behind,
+  command_faults,
+  inner_faults,
+  block_faults,
+  txn_faults,
+  txns_faults,
+}
 use Rattle.sv_app.specs.Typing.{fault_if, is_text, repeats, no_column}
-use Rattle.sv_typing.proofs.Erased.{bare, bare_column, bare_table, bare_schema, find_map, holds_map, map_map, none_map, column_bare, table_bare, key_bare, columns_bare, repeats_bare, no_column_bare,
-  flat_bare, meant_bare, no_table_bare, no_column_in}
+use Rattle.sv_typing.proofs.Erased.{
+  bare,
+  bare_column,
+  bare_table,
+  bare_schema,
+  find_map,
+  holds_map,
+  map_map,
+  none_map,
+  column_bare,
+  table_bare,
+  key_bare,
+  columns_bare,
+  repeats_bare,
+  no_column_bare,
+  flat_bare,
+  meant_bare,
+  no_table_bare,
+  no_column_in,
+}
 use Rattle.sv_typing.proofs.NumberedSchema.{map_same, option_same}
 
 abbrev pub bare_meaning : Meaning → Meaning
@@ -108,10 +187,10 @@ own_type t column =
 column_type_bare : (schema : List Declaration) (table column : Ident) → column_type (bare_schema schema) (bare table) (bare column) ≡ column_type schema table column
 column_type_bare schema table column =
     ap (option_and_then (λ t. option_map (λ (c : Column). c.ty) (column_of t (bare column)))) (table_bare schema table) ∙ by_cases (table_of schema table) where
-  by_cases : (o : Option Declaration) → option_and_then (λ t. option_map (λ (c : Column). c.ty) (column_of t (bare column))) (option_map bare_table o)
-      ≡ option_and_then (λ t. option_map (λ (c : Column). c.ty) (column_of t column)) o
-  by_cases None = refl
-  by_cases (Some t) = own_type t column
+      by_cases : (o : Option Declaration) → option_and_then (λ t. option_map (λ (c : Column). c.ty) (column_of t (bare column))) (option_map bare_table o)
+          ≡ option_and_then (λ t. option_map (λ (c : Column). c.ty) (column_of t column)) o
+      by_cases None = refl
+      by_cases (Some t) = own_type t column
 
 meant_type_bare : (m : Option Meaning) → type_meant (option_map bare_meaning m) ≡ type_meant m
 meant_type_bare None = refl
@@ -292,19 +371,19 @@ command_bare at (ForRows r t c body) = (λ i. no_such_table_bare at.schema t i +
 command_bare at (ForEach x l body) = ap (λ m. walk_faults m (bare l)) (meaning_bare at l) ∙ walk_bare (meaning_of at l) l
 command_bare at (Insert t vs) =
     let own = at_table_bare at.schema t (λ d. kind_faults d acts.Insert (bare t) ++ value_list_faults (bare_scope at) d (column_names d) (map bare_term vs) (bare t))
-        (λ d. kind_faults d acts.Insert t ++ value_list_faults at d (column_names d) vs t) (λ d. ap (λ l. kind_faults d acts.Insert t ++ l) (all_values_bare at d vs t)) in
+    (λ d. kind_faults d acts.Insert t ++ value_list_faults at d (column_names d) vs t) (λ d. ap (λ l. kind_faults d acts.Insert t ++ l) (all_values_bare at d vs t)) in
     (λ i. own i ++ terms_bare at vs i)
 command_bare at (Update t k ss) =
     let own = at_table_bare at.schema t (λ d. kind_faults d acts.Update (bare t) ++ value_list_faults (bare_scope at) d d.key (map bare_term k) (bare t) ++ sets_faults (bare_scope at) (bare t) d (map bare_set ss))
-        (λ d. kind_faults d acts.Update t ++ value_list_faults at d d.key k t ++ sets_faults at t d ss)
-        (λ d. (λ i. kind_faults d acts.Update t ++ values_bare at d d.key k t i ++ sets_bare at t d ss i)) in
+    (λ d. kind_faults d acts.Update t ++ value_list_faults at d d.key k t ++ sets_faults at t d ss)
+    (λ d. (λ i. kind_faults d acts.Update t ++ values_bare at d d.key k t i ++ sets_bare at t d ss i)) in
     let names : repeats (map (λ (s : Ident × Term). s.0) (map bare_set ss)) ≡ repeats (map (λ (s : Ident × Term). s.0) ss) =
-        ap repeats (map_same bare_set (λ (s : Ident × Term). s.0) (λ s. bare s.0) ss (λ s. refl) ∙ sym (map_map (λ (s : Ident × Term). s.0) bare ss)) ∙ repeats_bare (map (λ (s : Ident × Term). s.0) ss) in
+    ap repeats (map_same bare_set (λ (s : Ident × Term). s.0) (λ s. bare s.0) ss (λ s. refl) ∙ sym (map_map (λ (s : Ident × Term). s.0) bare ss)) ∙ repeats_bare (map (λ (s : Ident × Term). s.0) ss) in
     let values = flat_bare bare_set (λ s. term_faults (updating (bare_scope at) (bare t)) s.1) (λ s. term_faults (updating at t) s.1) ss (λ s. term_bare (updating at t) s.1) in
     (λ i. own i ++ terms_bare at k i ++ names i ++ values i)
 command_bare at (Remove t k) =
     let own = at_table_bare at.schema t (λ d. kind_faults d acts.Remove (bare t) ++ value_list_faults (bare_scope at) d d.key (map bare_term k) (bare t))
-        (λ d. kind_faults d acts.Remove t ++ value_list_faults at d d.key k t) (λ d. ap (λ l. kind_faults d acts.Remove t ++ l) (values_bare at d d.key k t)) in
+    (λ d. kind_faults d acts.Remove t ++ value_list_faults at d d.key k t) (λ d. ap (λ l. kind_faults d acts.Remove t ++ l) (values_bare at d d.key k t)) in
     (λ i. own i ++ terms_bare at k i)
 command_bare at (Abort n) = refl
 command_bare at (Reply e) = term_bare at e
@@ -327,7 +406,7 @@ mutual
   block_bare at Finish = refl
   block_bare at (Then c rest) =
       let more : block_faults (behind (bare_scope at) (bare_command c)) (bare_block rest) ≡ block_faults (behind at c) rest =
-          ap (λ there. block_faults there (bare_block rest)) (behind_bare at c) ∙ block_bare (behind at c) rest in
+      ap (λ there. block_faults there (bare_block rest)) (behind_bare at c) ∙ block_bare (behind at c) rest in
       (λ i. command_bare at c i ++ inner_bare at c i ++ more i)
 
 -- names that are declared
@@ -373,10 +452,10 @@ flat_declared (c ∷ cs) = (λ i. declared_bare c i ++ flat_declared cs i) ∙ s
 pub declares_bare : (txn : Transaction) → declares (bare_txn txn) ≡ map bare_declared (declares txn)
 declares_bare txn =
     let front : map (λ (p : Ident × Ty). plain_name p.0) (map bare_param txn.params) ≡ map bare_declared (map (λ (p : Ident × Ty). plain_name p.0) txn.params) =
-        map_same bare_param (λ (p : Ident × Ty). plain_name p.0) (λ p. plain_name (bare p.0)) txn.params (λ p. refl)
-        ∙ sym (map_same (λ (p : Ident × Ty). plain_name p.0) bare_declared (λ p. plain_name (bare p.0)) txn.params (λ p. refl)) in
+    map_same bare_param (λ (p : Ident × Ty). plain_name p.0) (λ p. plain_name (bare p.0)) txn.params (λ p. refl)
+    ∙ sym (map_same (λ (p : Ident × Ty). plain_name p.0) bare_declared (λ p. plain_name (bare p.0)) txn.params (λ p. refl)) in
     let back : flat_map declared_by (block_statements (bare_block txn.body)) ≡ map bare_declared (flat_map declared_by (block_statements txn.body)) =
-        ap (flat_map declared_by) (statements_bare txn.body) ∙ flat_declared (block_statements txn.body) in
+    ap (flat_map declared_by) (statements_bare txn.body) ∙ flat_declared (block_statements txn.body) in
     (λ i. front i ++ back i) ∙ sym (map-append bare_declared (map (λ (p : Ident × Ty). plain_name p.0) txn.params) (flat_map declared_by (block_statements txn.body)))
 
 pub names_bare : (txn : Transaction) → names_of (bare_txn txn) ≡ map bare (names_of txn)
@@ -392,21 +471,21 @@ map_reverse f (x ∷ xs) =
 opening_bare : (schema : List Declaration) (params : List (Ident × Ty)) → opening (bare_schema schema) (map bare_param params) ≡ bare_scope (opening schema params)
 opening_bare schema params =
     let known : reverse (map parameter (map bare_param params)) ≡ map bare_known (reverse (map parameter params)) =
-        ap reverse (map_same bare_param parameter (λ p. bare_known (parameter p)) params (λ p. refl) ∙ sym (map_map parameter bare_known params))
-        ∙ sym (map_reverse bare_known (map parameter params)) in
+    ap reverse (map_same bare_param parameter (λ p. bare_known (parameter p)) params (λ p. refl) ∙ sym (map_map parameter bare_known params))
+    ∙ sym (map_reverse bare_known (map parameter params)) in
     ap (λ (k : List Known). let s : Scope = record { schema = bare_schema schema; known = k; updated = None } in s) known
 
 one_txn_bare : (schema : List Declaration) (txn : Transaction) → txn_faults (bare_schema schema) (bare_txn txn) ≡ txn_faults schema txn
 one_txn_bare schema txn =
     let names : repeats (names_of (bare_txn txn)) ≡ repeats (names_of txn) = ap repeats (names_bare txn) ∙ repeats_bare (names_of txn) in
     let body : block_faults (opening (bare_schema schema) (map bare_param txn.params)) (bare_block txn.body) ≡ block_faults (opening schema txn.params) txn.body =
-        ap (λ at. block_faults at (bare_block txn.body)) (opening_bare schema txn.params) ∙ block_bare (opening schema txn.params) txn.body in
+    ap (λ at. block_faults at (bare_block txn.body)) (opening_bare schema txn.params) ∙ block_bare (opening schema txn.params) txn.body in
     (λ i. names i ++ body i)
 
 -- the same is wrong, whatever the numbers are
 pub txns_bare : (schema : List Declaration) (txns : List Transaction) → txns_faults (bare_schema schema) (bare_txns txns) ≡ txns_faults schema txns
 txns_bare schema txns =
     let names : repeats (map (λ (t : Transaction). t.name) (bare_txns txns)) ≡ repeats (map (λ (t : Transaction). t.name) txns) =
-        ap repeats (map_same bare_txn (λ (t : Transaction). t.name) (λ t. bare t.name) txns (λ t. refl) ∙ sym (map_map (λ (t : Transaction). t.name) bare txns)) ∙ repeats_bare (map (λ (t : Transaction). t.name) txns) in
+    ap repeats (map_same bare_txn (λ (t : Transaction). t.name) (λ t. bare t.name) txns (λ t. refl) ∙ sym (map_map (λ (t : Transaction). t.name) bare txns)) ∙ repeats_bare (map (λ (t : Transaction). t.name) txns) in
     let each = flat_bare bare_txn (λ txn. txn_faults (bare_schema schema) txn) (λ txn. txn_faults schema txn) txns (one_txn_bare schema) in
     (λ i. names i ++ each i)

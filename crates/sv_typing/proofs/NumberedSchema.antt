@@ -41,7 +41,7 @@ bare_tables schema t =
     let key = map_same (numbered_in (column_names t)) bare bare t.key (λ x. refl) in
     let second = option_same (numbered_in (column_names t)) bare bare t.second_key (λ x. refl) in
     let invs = map_same (numbered_invariant schema t) bare_invariant bare_invariant t.invs
-        (λ inv. ap (λ rule. let k : Invariant = record { number = inv.number; rule = rule; spot = inv.spot } in k) (bare_rules schema t inv.rule)) in
+    (λ inv. ap (λ rule. let k : Invariant = record { number = inv.number; rule = rule; spot = inv.spot } in k) (bare_rules schema t inv.rule)) in
     (λ i. record { name = bare t.name; kind = t.kind; columns = columns i; key = key i; second_key = second i; invs = invs i })
 
 pub bare_numbered : (schema : List Declaration) → bare_schema (numbered schema) ≡ bare_schema schema
@@ -78,11 +78,11 @@ rules_from_bare schema t (Refers name table target) = (λ i. Refers (in_columns_
 tables_from_bare : (schema : List Declaration) (t : Declaration) → numbered_table (bare_schema schema) (bare_table t) ≡ numbered_table schema t
 tables_from_bare schema t =
     let columns = map_same bare_column (numbered_column (bare_table t)) (numbered_column t) t.columns
-        (λ c. ap (λ n. let k : Column = record { name = n; ty = c.ty; merge = c.merge } in k) (in_columns_bare t c.name)) in
+    (λ c. ap (λ n. let k : Column = record { name = n; ty = c.ty; merge = c.merge } in k) (in_columns_bare t c.name)) in
     let key = map_same bare (numbered_in (column_names (bare_table t))) (numbered_in (column_names t)) t.key (in_columns_bare t) in
     let second = option_same bare (numbered_in (column_names (bare_table t))) (numbered_in (column_names t)) t.second_key (in_columns_bare t) in
     let invs = map_same bare_invariant (numbered_invariant (bare_schema schema) (bare_table t)) (numbered_invariant schema t) t.invs
-        (λ inv. ap (λ rule. let k : Invariant = record { number = inv.number; rule = rule; spot = inv.spot } in k) (rules_from_bare schema t inv.rule)) in
+    (λ inv. ap (λ rule. let k : Invariant = record { number = inv.number; rule = rule; spot = inv.spot } in k) (rules_from_bare schema t inv.rule)) in
     (λ i. record { name = in_tables_bare schema t.name i; kind = t.kind; columns = columns i; key = key i; second_key = second i; invs = invs i })
 
 pub numbered_bare : (schema : List Declaration) → numbered (bare_schema schema) ≡ numbered schema

@@ -12,12 +12,60 @@ use Rattle.sv_app.specs.Lookups.{is_named}
 use Rattle.sv_app.specs.Numbers.{numbered, numbered_in}
 use Rattle.sv_app.specs.Schema.{Declaration}
 use Rattle.sv_app.specs.Statements.{inner_statements, block_statements}
-use Rattle.sv_app.specs.Trees.{Term, Number, Words, Variable, Field, Old, Minus, Sum, Difference, Product, Test, Compare, Negation, Both, Either,
-  Command, Declare, Assign, Fetch, Choose, ForRows, ForEach, Insert, Update, Remove, Abort, Reply, Block, Finish, Then, Transaction}
+use Rattle.sv_app.specs.Trees.{
+  Term,
+  Number,
+  Words,
+  Variable,
+  Field,
+  Old,
+  Minus,
+  Sum,
+  Difference,
+  Product,
+  Test,
+  Compare,
+  Negation,
+  Both,
+  Either,
+  Command,
+  Declare,
+  Assign,
+  Fetch,
+  Choose,
+  ForRows,
+  ForEach,
+  Insert,
+  Update,
+  Remove,
+  Abort,
+  Reply,
+  Block,
+  Finish,
+  Then,
+  Transaction,
+}
 use Rattle.sv_app.specs.TxnConditions.{is_loop, is_declaration, loops_of, IsKey, KeepsStatement, KeepsTxnGrammar, IsSmallTxn, KeepsTxnLimits}
 use Rattle.sv_app.specs.TxnNames.{declares}
-use Rattle.sv_app.specs.TxnNumbers.{Naming, columns_of, columns_of_row, numbered_table_name, numbered_name, numbered_term, numbered_test, numbered_terms, updating, numbered_set, numbered_command, numbered_block,
-  numbered_parameter, naming, txn_names, numbered_txn, numbered_txns}
+use Rattle.sv_app.specs.TxnNumbers.{
+  Naming,
+  columns_of,
+  columns_of_row,
+  numbered_table_name,
+  numbered_name,
+  numbered_term,
+  numbered_test,
+  numbered_terms,
+  updating,
+  numbered_set,
+  numbered_command,
+  numbered_block,
+  numbered_parameter,
+  naming,
+  txn_names,
+  numbered_txn,
+  numbered_txns,
+}
 use Rattle.sv_app.specs.TxnTyping.{txns_faults}
 use Rattle.sv_typing.proofs.Erased.{bare, bare_schema, find_map, map_map}
 use Rattle.sv_typing.proofs.ErasedTxns.{bare_term, bare_test, bare_set, bare_command, bare_block, bare_param, bare_txn, bare_txns, bare_declared, declares_bare, txns_bare}
@@ -113,7 +161,7 @@ txn_from schema txns txn =
     let by : Naming = naming schema txn in
     let name = ap (λ names. numbered_in names (bare txn.name)) (names_from txns) ∙ in_bare (txn_names txns) txn.name in
     let params = ap (λ n. map (numbered_parameter n) (map bare_param txn.params)) (naming_from schema txn)
-        ∙ map_same bare_param (numbered_parameter (bare_naming by)) (numbered_parameter by) txn.params (λ p. ap (λ n. (n, p.1)) (name_from by p.0)) in
+    ∙ map_same bare_param (numbered_parameter (bare_naming by)) (numbered_parameter by) txn.params (λ p. ap (λ n. (n, p.1)) (name_from by p.0)) in
     let body = ap (λ n. numbered_block n (bare_block txn.body)) (naming_from schema txn) ∙ block_from by txn.body in
     (λ i. record { name = name i; params = params i; body = body i })
 
@@ -262,7 +310,7 @@ pub txn_grammar_numbered : (schema : List Declaration) (txns : List Transaction)
 txn_grammar_numbered schema txns each =
     all_map (numbered_txn schema txns) (λ txn. All KeepsStatement (block_statements txn.body)) (λ txn. All KeepsStatement (block_statements txn.body)) txns
     (λ txn k. subst (λ (cs : List Command). All KeepsStatement cs) (sym (statements_numbered (naming schema txn) txn.body))
-      (all_map (numbered_command (naming schema txn)) KeepsStatement KeepsStatement (block_statements txn.body) (statement_numbered (naming schema txn)) k)) each
+    (all_map (numbered_command (naming schema txn)) KeepsStatement KeepsStatement (block_statements txn.body) (statement_numbered (naming schema txn)) k)) each
 
 term_depth_numbered : (by : Naming) (e : Term) → term_depth (numbered_term by e) ≡ term_depth e
 term_depth_numbered by (Number n s) = refl
@@ -327,13 +375,13 @@ small_numbered schema txns txn small =
     let by : Naming = naming schema txn in
     let params : length (map (numbered_parameter by) txn.params) ≡ length txn.params = length-map txn.params (numbered_parameter by) in
     let statements : length (block_statements (numbered_block by txn.body)) ≡ length (block_statements txn.body) =
-        ap (λ (cs : List Command). length cs) (statements_numbered by txn.body) ∙ length-map (block_statements txn.body) (numbered_command by) in
+    ap (λ (cs : List Command). length cs) (statements_numbered by txn.body) ∙ length-map (block_statements txn.body) (numbered_command by) in
     let blocks : block_depth (numbered_block by txn.body) ≡ block_depth txn.body = block_depth_numbered by txn.body in
     let loops : length (loops_of (numbered_block by txn.body)) ≡ length (loops_of txn.body) = loops_numbered by txn.body in
     let variables : length (filter is_declaration (block_statements (numbered_block by txn.body))) ≡ length (filter is_declaration (block_statements txn.body)) =
-        ap (λ cs. length (filter is_declaration cs)) (statements_numbered by txn.body) ∙ count_map (numbered_command by) is_declaration (block_statements txn.body) (declaration_numbered by) in
+    ap (λ cs. length (filter is_declaration cs)) (statements_numbered by txn.body) ∙ count_map (numbered_command by) is_declaration (block_statements txn.body) (declaration_numbered by) in
     let expressions : flat_map depths (block_statements (numbered_block by txn.body)) ≡ flat_map depths (block_statements txn.body) =
-        ap (flat_map depths) (statements_numbered by txn.body) ∙ all_depths_numbered by (block_statements txn.body) in
+    ap (flat_map depths) (statements_numbered by txn.body) ∙ all_depths_numbered by (block_statements txn.body) in
     record {
       params = omega (arith, params, small.params);
       statements = omega (arith, statements, small.statements);

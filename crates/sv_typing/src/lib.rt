@@ -23,6 +23,8 @@ mod terms;
 #[cfg(test)]
 mod tests;
 mod txn_numbers;
+#[cfg(test)]
+mod txn_tests;
 mod txns;
 mod types;
 mod values;

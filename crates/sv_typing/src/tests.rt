@@ -1,6 +1,6 @@
 // What no clause says: that a schema can be accepted, with memory for the numbers of its names.
-ghost use Rattle.std.specs.Prelude.{IfOk};
-ghost use Rattle.sv_app.specs.Conditions.{IsSmallTable, IsSmallRule};
+ghost use Rattle.std.specs.Prelude.{◌≡◌, IfOk};
+ghost use Rattle.sv_app.specs.Conditions.{IsSmallTable, IsSmallRule, KeepsTable, KeepsRule, AreNumberedFrom};
 ghost use Rattle.sv_app.specs.Schema.{declaration_of, rule_of};
 
 use crate::accept;
@@ -20,7 +20,9 @@ fn ident(bytes: &[u8], col: u32) -> Result<Ident, Fail> {
     }
 }
 
-fn column(bytes: &[u8], col: u32, ty: Ty) -> Result<Column, Fail> {
+fn column(bytes: &[u8], col: u32, ty: Ty) -> Result<Column, Fail>
+    ensures { IfOk result (λ column. column.ty ≡ ty) }
+{
     let name = ident(bytes, col)?;
     Ok(Column {
         name,
@@ -31,7 +33,7 @@ fn column(bytes: &[u8], col: u32, ty: Ty) -> Result<Column, Fail> {
 
 /// The column `state` of the table has the text `open`.
 fn open(alloc: Global) -> Result<Inv, Fail>
-    ensures { IfOk result (λ inv. IsSmallRule (rule_of inv.body)) }
+    ensures { IfOk result (λ inv. (inv.number ≡ 1) × KeepsRule (rule_of inv.body) × IsSmallRule (rule_of inv.body)) }
 {
     let col = ident(b"state", 1)?;
     let mut texts = Vec::new(alloc);
@@ -48,7 +50,9 @@ fn open(alloc: Global) -> Result<Inv, Fail>
 
 /// A table with a key, a text column and a list.
 fn orders(alloc: Global) -> Result<Table, Fail>
-    ensures { IfOk result (λ table. IsSmallTable (declaration_of table)) }
+    ensures small { IfOk result (λ table. IsSmallTable (declaration_of table)) }
+    ensures keeps { IfOk result (λ table. KeepsTable (declaration_of table)) }
+    ensures numbered { IfOk result (λ table. AreNumberedFrom 1 (declaration_of table).invs) }
 {
     let name = ident(b"orders", 1)?;
     let mut columns = Vec::new(alloc);
