@@ -3,9 +3,11 @@
 
 mod changes;
 mod inserts;
+mod keys;
 mod looks;
 mod loops;
 mod needs;
+mod runs;
 mod scopes;
 mod statements;
 mod states;
