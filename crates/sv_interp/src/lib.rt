@@ -12,5 +12,10 @@ mod scopes;
 mod statements;
 mod states;
 mod slots;
+mod txns;
 mod values;
+mod walks;
 mod writes;
+
+pub use sv_effect::{Outcome, Ran};
+pub use txns::run_txn;
