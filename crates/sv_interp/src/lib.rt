@@ -3,12 +3,19 @@
 
 mod changes;
 mod inserts;
+mod keys;
 mod looks;
 mod loops;
 mod needs;
+mod runs;
 mod scopes;
 mod statements;
 mod states;
 mod slots;
+mod txns;
 mod values;
+mod walks;
 mod writes;
+
+pub use sv_effect::{Outcome, Ran};
+pub use txns::run_txn;

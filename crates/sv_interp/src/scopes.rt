@@ -7,6 +7,7 @@ ghost use Rattle.sv_app.specs.Symbols.{is_same_source, is_known};
 ghost use Rattle.sv_effect.specs.RunValues.{nothing, brought, brought_old, put, chosen, column, with_progress};
 ghost use Rattle.sv_interp.specs.Machine.{progress_of, scope_of};
 
+use std::alloc::Global;
 use sv_app::{Got, Source};
 use sv_value::{List, NoMemory, Val};
 
@@ -98,6 +99,20 @@ impl Progress {
         Ok(())
     }
 
+    /// The same, of its own.
+    fn copied(&self, alloc: Global) -> Result<Progress, NoMemory>
+        ensures { IfOk result (λ copy. progress_of copy ≡ progress_of self.now) }
+    {
+        Ok(Progress {
+            unit: self.unit,
+            number: self.number,
+            choices: self.choices.copied(alloc)?,
+            tape: self.tape.copied(alloc)?,
+            known: self.known.copied(alloc)?,
+            known_old: self.known_old.copied(alloc)?,
+        })
+    }
+
     /// Takes a choice.
     pub fn choose(&mut self, holds: bool) -> Result<(), NoMemory>
         ensures { OnOk result (progress_of self.new ≡ chosen holds (progress_of self.old)) }
@@ -127,4 +142,26 @@ impl Scope {
             None => Got::Num(0),
         }
     }
+
+    /// The same, of its own.
+    pub fn copied(&self, alloc: Global) -> Result<Scope, NoMemory>
+        ensures { IfOk result (λ copy. scope_of copy ≡ scope_of self.now) }
+    {
+        Ok(Scope {
+            values: Vec::from_slice(alloc, &self.values)?,
+            rows: copy_rows(alloc, &self.rows)?,
+            before: self.before.copied(alloc)?,
+            progress: self.progress.copied(alloc)?,
+        })
+    }
+}
+
+fn copy_rows(alloc: Global, rows: &[List<Got>]) -> Result<Vec<List<Got>>, NoMemory>
+    ensures { IfOk result (λ copy. copy.items ≡ rows.now) }
+{
+    let mut copies = Vec::new(alloc);
+    for row in rows {
+        copies.push(row.copied(alloc)?)?;
+    }
+    Ok(copies)
 }

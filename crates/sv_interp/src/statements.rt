@@ -1,22 +1,25 @@
-ghost use Rattle.std.specs.Prelude.{◌≡◌, IfOk, Err, false, List, slice_get};
+ghost use Rattle.std.specs.Prelude.{◌≡◌, IfOk, Err, false, List as Items, map, slice_get};
+ghost use Rattle.sv_value.specs.declared.values.Val.TheVariants.{Int};
 ghost use Rattle.std.specs.FinMap.{get};
 ghost use Rattle.sv_app.specs.Schema.{Declaration, declaration_of};
 ghost use Rattle.sv_app.specs.Tables.{Tables};
 ghost use Rattle.sv_app.specs.Trees.{term_of, terms_of, sets_of, Declare, Fetch, Insert, Update, Remove, Reply};
+ghost use Rattle.sv_app.specs.Units.{unit_of};
 ghost use Rattle.sv_effect.specs.declared.reads.Ask.{Ask as AskValue};
 ghost use Rattle.sv_effect.specs.declared.reads.Halt.TheVariants as halt;
-ghost use Rattle.sv_effect.specs.Run.{run_command, on_present, inserted, updated, Setting as RunSetting};
+ghost use Rattle.sv_effect.specs.Run.{items_of, run_command, on_present, inserted, updated, Setting as RunSetting};
 ghost use Rattle.sv_interp.specs.Machine.{declared, stand, flow_of, setting_of, Runs};
 
 use crate::changes::{insert_row, remove_row, update_row};
 use crate::inserts::{key_in, key_of, values};
 use crate::looks::look;
+use crate::loops::unit_of;
 use crate::states::{Setting, State};
 use crate::values::value;
 use std::alloc::Global;
-use sv_app::{Expr, Ident, Place, Table};
+use sv_app::{Arg, Expr, Ident, Place, Table};
 use sv_effect::{Halt, Outcome, Rows};
-use sv_value::{NoMemory, Val};
+use sv_value::{List, NoMemory, Val};
 
 /// Gives a variable the value of an expression.
 pub fn run_let(var: Ident, expr: &Expr, state: &mut State) -> Result<Option<Outcome>, NoMemory>
@@ -51,7 +54,7 @@ pub fn run_get<R: Rows>(
     rows: &mut R,
 ) -> Result<Option<Outcome>, Halt>
     ensures ran { IfOk result (λ end. Runs (run_command (setting_of setting.now) (Fetch row table (terms_of key.now))) (R.tables rows.old) (R.tables rows.new) (R.noted rows.old) (R.noted rows.new) state.old end state.new) }
-    ensures same_app { (schema : List Declaration) → R.is_of rows.old schema → R.is_of rows.new schema }
+    ensures same_app { (schema : Items Declaration) → R.is_of rows.old schema → R.is_of rows.new schema }
     ensures same_tables { R.tables rows.new ≡ R.tables rows.old }
     ensures same_knows { R.knows rows.new ≡ R.knows rows.old }
     ensures missing { (a : AskValue) → result ≡ Err (halt.Missing a) → R.knows rows.old a ≡ false }
@@ -92,7 +95,7 @@ fn insert_at<R: Rows>(
     rows: &mut R,
 ) -> Result<Option<Outcome>, Halt>
     ensures ran { IfOk result (λ end. Runs (λ st. inserted (declaration_of table.now) place.now vals.now (get st.tables place.now) st) (R.tables rows.old) (R.tables rows.new) (R.noted rows.old) (R.noted rows.new) state.old end state.new) }
-    ensures same_app { (schema : List Declaration) → R.is_of rows.old schema → R.is_of rows.new schema }
+    ensures same_app { (schema : Items Declaration) → R.is_of rows.old schema → R.is_of rows.new schema }
     ensures same_tables { R.tables rows.new ≡ R.tables rows.old }
     ensures same_knows { R.knows rows.new ≡ R.knows rows.old }
     ensures missing { (a : AskValue) → result ≡ Err (halt.Missing a) → R.knows rows.old a ≡ false }
@@ -113,7 +116,7 @@ pub fn run_insert<R: Rows>(
     rows: &mut R,
 ) -> Result<Option<Outcome>, Halt>
     ensures ran { IfOk result (λ end. Runs (run_command (setting_of setting.now) (Insert table (terms_of exprs.now))) (R.tables rows.old) (R.tables rows.new) (R.noted rows.old) (R.noted rows.new) state.old end state.new) }
-    ensures same_app { (schema : List Declaration) → R.is_of rows.old schema → R.is_of rows.new schema }
+    ensures same_app { (schema : Items Declaration) → R.is_of rows.old schema → R.is_of rows.new schema }
     ensures same_tables { R.tables rows.new ≡ R.tables rows.old }
     ensures same_knows { R.knows rows.new ≡ R.knows rows.old }
     ensures missing { (a : AskValue) → result ≡ Err (halt.Missing a) → R.knows rows.old a ≡ false }
@@ -142,7 +145,7 @@ fn update_at<R: Rows>(
     rows: &mut R,
 ) -> Result<Option<Outcome>, Halt>
     ensures ran { IfOk result (λ end. Runs (λ st. on_present (get st.tables place.now) (updated (declaration_of table.now) place.now (sets_of sets.now) st)) (R.tables rows.old) (R.tables rows.new) (R.noted rows.old) (R.noted rows.new) state.old end state.new) }
-    ensures same_app { (schema : List Declaration) → R.is_of rows.old schema → R.is_of rows.new schema }
+    ensures same_app { (schema : Items Declaration) → R.is_of rows.old schema → R.is_of rows.new schema }
     ensures same_tables { R.tables rows.new ≡ R.tables rows.old }
     ensures same_knows { R.knows rows.new ≡ R.knows rows.old }
     ensures missing { (a : AskValue) → result ≡ Err (halt.Missing a) → R.knows rows.old a ≡ false }
@@ -171,7 +174,7 @@ pub fn run_update<R: Rows>(
     rows: &mut R,
 ) -> Result<Option<Outcome>, Halt>
     ensures ran { IfOk result (λ end. Runs (run_command (setting_of setting.now) (Update table (terms_of key.now) (sets_of sets.now))) (R.tables rows.old) (R.tables rows.new) (R.noted rows.old) (R.noted rows.new) state.old end state.new) }
-    ensures same_app { (schema : List Declaration) → R.is_of rows.old schema → R.is_of rows.new schema }
+    ensures same_app { (schema : Items Declaration) → R.is_of rows.old schema → R.is_of rows.new schema }
     ensures same_tables { R.tables rows.new ≡ R.tables rows.old }
     ensures same_knows { R.knows rows.new ≡ R.knows rows.old }
     ensures missing { (a : AskValue) → result ≡ Err (halt.Missing a) → R.knows rows.old a ≡ false }
@@ -201,7 +204,7 @@ pub fn run_remove<R: Rows>(
     rows: &mut R,
 ) -> Result<Option<Outcome>, Halt>
     ensures ran { IfOk result (λ end. Runs (run_command (setting_of setting.now) (Remove table (terms_of key.now))) (R.tables rows.old) (R.tables rows.new) (R.noted rows.old) (R.noted rows.new) state.old end state.new) }
-    ensures same_app { (schema : List Declaration) → R.is_of rows.old schema → R.is_of rows.new schema }
+    ensures same_app { (schema : Items Declaration) → R.is_of rows.old schema → R.is_of rows.new schema }
     ensures same_tables { R.tables rows.new ≡ R.tables rows.old }
     ensures same_knows { R.knows rows.new ≡ R.knows rows.old }
     ensures missing { (a : AskValue) → result ≡ Err (halt.Missing a) → R.knows rows.old a ≡ false }
@@ -223,4 +226,36 @@ pub fn run_remove<R: Rows>(
             Ok(end)
         }
     }
+}
+
+/// The elements of a list parameter.
+pub fn items_of(
+    alloc: Global,
+    setting: &Setting<'_>,
+    number: u16,
+) -> Result<List<Val>, NoMemory>
+    ensures { IfOk result (λ items. items ≡ items_of (slice_get (setting_of setting.now).arguments number)) }
+{
+    match setting.args.get(number as usize) {
+        Some(Arg::Ints(numbers)) => integers(alloc, numbers.items()),
+        Some(Arg::Int(_)) | Some(Arg::Text(_)) | None => Ok(List::new(alloc)),
+    }
+}
+
+fn integers(alloc: Global, numbers: &[i64]) -> Result<List<Val>, NoMemory>
+    ensures { IfOk result (λ items. items ≡ map (λ n. Int n) numbers.now) }
+{
+    let mut items = List::new(alloc);
+    for number in numbers {
+        items.push(Val::Int(*number))?;
+    }
+    Ok(items)
+}
+
+/// The number of the unit of the loop over a variable.
+pub fn loop_unit(setting: &Setting<'_>, var: u16) -> Result<u16, NoMemory>
+    ensures { IfOk result (λ unit. unit ≡ unit_of (setting_of setting.now).loops var) }
+{
+    let loops = setting.loops;
+    unit_of(loops, var)
 }

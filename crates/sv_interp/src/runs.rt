@@ -1,0 +1,398 @@
+ghost use Rattle.std.specs.Prelude.{◌≡◌, ◌≤◌, length, IfOk, Err, false, List};
+ghost use Rattle.std.specs.Option.{option_map};
+ghost use Rattle.sv_app.specs.Schema.{Declaration};
+ghost use Rattle.sv_app.specs.Tables.{Tables};
+ghost use Rattle.sv_app.specs.Trees.{command_of, block_of, test_of, Choose, ForRows, ForEach};
+ghost use Rattle.sv_app.specs.Units.{unit_of};
+ghost use Rattle.sv_effect.specs.declared.reads.Ask.{Ask as AskValue};
+ghost use Rattle.sv_effect.specs.declared.reads.Halt.TheVariants as halt;
+ghost use Rattle.sv_effect.specs.Run.{run_command, run_block, turns, row_turn, item_turn};
+ghost use Rattle.sv_interp.specs.Machine.{progress_of, stand, flow_of, setting_of, Runs, Reaches, closing, looping};
+
+use crate::keys::met_keys;
+use crate::looks::look;
+use crate::loops::split;
+use crate::scopes::Progress;
+use crate::slots::put_value;
+use crate::statements::{items_of, loop_unit, run_get, run_insert, run_let, run_remove, run_reply, run_update};
+use crate::states::{Setting, State};
+use crate::values::truth;
+use std::alloc::Global;
+use sv_app::{Cond, Ident, Parts, Place, Stmt, parts_of};
+use sv_effect::{Halt, Outcome, Rows};
+use sv_value::{Key, Val};
+
+/// Runs statements in order.
+#[cycle(run)]
+#[tactic(auto, using(crate::proofs::RunLaws::blocks))]
+pub fn run_all<R: Rows>(
+    alloc: Global,
+    setting: &Setting<'_>,
+    stmts: &[Stmt],
+    state: &mut State,
+    rows: &mut R,
+) -> Result<Option<Outcome>, Halt>
+    ensures ran { IfOk result (λ end. Runs (run_block (setting_of setting.now) (block_of stmts.now)) (R.tables rows.old) (R.tables rows.new) (R.noted rows.old) (R.noted rows.new) state.old end state.new) }
+    ensures same_app { (schema : List Declaration) → R.is_of rows.old schema → R.is_of rows.new schema }
+    ensures same_tables { R.tables rows.new ≡ R.tables rows.old }
+    ensures same_knows { R.knows rows.new ≡ R.knows rows.old }
+    ensures missing { (a : AskValue) → result ≡ Err (halt.Missing a) → R.knows rows.old a ≡ false }
+{
+    match split(stmts) {
+        None => Ok(None),
+        Some((first, rest)) => match run_one(alloc, setting, first, state, rows)? {
+            None => {
+                let end = run_all(alloc, setting, rest, state, rows)?;
+                Ok(end)
+            }
+            Some(end) => Ok(Some(end)),
+        },
+    }
+}
+
+#[cycle(run)]
+#[tactic(auto, using(crate::proofs::RunLaws::commands))]
+fn run_one<R: Rows>(
+    alloc: Global,
+    setting: &Setting<'_>,
+    stmt: &Stmt,
+    state: &mut State,
+    rows: &mut R,
+) -> Result<Option<Outcome>, Halt>
+    ensures ran { IfOk result (λ end. Runs (run_command (setting_of setting.now) (command_of stmt.now)) (R.tables rows.old) (R.tables rows.new) (R.noted rows.old) (R.noted rows.new) state.old end state.new) }
+    ensures same_app { (schema : List Declaration) → R.is_of rows.old schema → R.is_of rows.new schema }
+    ensures same_tables { R.tables rows.new ≡ R.tables rows.old }
+    ensures same_knows { R.knows rows.new ≡ R.knows rows.old }
+    ensures missing { (a : AskValue) → result ≡ Err (halt.Missing a) → R.knows rows.old a ≡ false }
+{
+    match parts_of(stmt) {
+        Parts::Let { var, value } => {
+            let end = run_let(var, value, state)?;
+            Ok(end)
+        }
+        Parts::Assign { var, value } => {
+            let end = run_let(var, value, state)?;
+            Ok(end)
+        }
+        Parts::Get { row, table, key } => {
+            let end = run_get(alloc, setting, row, table, key, state, rows)?;
+            Ok(end)
+        }
+        Parts::If { cond, yes, no } => {
+            let end = run_if(alloc, setting, cond, yes, no, state, rows)?;
+            Ok(end)
+        }
+        Parts::Rows {
+            row,
+            table,
+            cond,
+            body,
+        } => {
+            let end = run_for(alloc, setting, row, table, cond, body, state, rows)?;
+            Ok(end)
+        }
+        Parts::Each { var, list, body } => {
+            let end = run_each(alloc, setting, var, list, body, state, rows)?;
+            Ok(end)
+        }
+        Parts::Insert { table, values } => {
+            let end = run_insert(alloc, setting, table, values, state, rows)?;
+            Ok(end)
+        }
+        Parts::Update { table, key, sets } => {
+            let end = run_update(alloc, setting, table, key, sets, state, rows)?;
+            Ok(end)
+        }
+        Parts::Remove { table, key } => {
+            let end = run_remove(alloc, setting, table, key, state, rows)?;
+            Ok(end)
+        }
+        Parts::Abort { code } => {
+            let end = Outcome::Abort(code);
+            Ok(Some(end))
+        }
+        Parts::Reply(value) => {
+            let end = run_reply(value, state)?;
+            Ok(end)
+        }
+    }
+}
+
+#[cycle(run)]
+#[tactic(auto, using(crate::proofs::RunLaws::steps))]
+fn run_if<R: Rows>(
+    alloc: Global,
+    setting: &Setting<'_>,
+    cond: &Cond,
+    yes: &[Stmt],
+    no: &[Stmt],
+    state: &mut State,
+    rows: &mut R,
+) -> Result<Option<Outcome>, Halt>
+    ensures ran { IfOk result (λ end. Runs (run_command (setting_of setting.now) (Choose (test_of cond.now) (block_of yes.now) (block_of no.now))) (R.tables rows.old) (R.tables rows.new) (R.noted rows.old) (R.noted rows.new) state.old end state.new) }
+    ensures same_app { (schema : List Declaration) → R.is_of rows.old schema → R.is_of rows.new schema }
+    ensures same_tables { R.tables rows.new ≡ R.tables rows.old }
+    ensures same_knows { R.knows rows.new ≡ R.knows rows.old }
+    ensures missing { (a : AskValue) → result ≡ Err (halt.Missing a) → R.knows rows.old a ≡ false }
+{
+    let Some(holds) = truth(cond, &mut state.scope)? else {
+        return Ok(Some(Outcome::Range));
+    };
+    if holds {
+        let end = run_all(alloc, setting, yes, state, rows)?;
+        Ok(end)
+    } else {
+        let end = run_all(alloc, setting, no, state, rows)?;
+        Ok(end)
+    }
+}
+
+/// The block of a turn, and the end of its instance.
+#[cycle(run)]
+#[tactic(auto, using(crate::proofs::RunLaws::closings))]
+fn run_turn<R: Rows>(
+    alloc: Global,
+    setting: &Setting<'_>,
+    body: &[Stmt],
+    outer: Progress,
+    state: &mut State,
+    rows: &mut R,
+) -> Result<Option<Outcome>, Halt>
+    ensures ran { IfOk result (λ end. Runs (closing (progress_of outer) (run_block (setting_of setting.now) (block_of body.now))) (R.tables rows.old) (R.tables rows.new) (R.noted rows.old) (R.noted rows.new) state.old end state.new) }
+    ensures same_app { (schema : List Declaration) → R.is_of rows.old schema → R.is_of rows.new schema }
+    ensures same_tables { R.tables rows.new ≡ R.tables rows.old }
+    ensures same_knows { R.knows rows.new ≡ R.knows rows.old }
+    ensures missing { (a : AskValue) → result ≡ Err (halt.Missing a) → R.knows rows.old a ≡ false }
+{
+    match run_all(alloc, setting, body, state, rows)? {
+        Some(end) => Ok(Some(end)),
+        None => {
+            state.close(outer)?;
+            Ok(None)
+        }
+    }
+}
+
+#[cycle(run)]
+#[tactic(auto, using(crate::proofs::RunLaws::steps))]
+fn run_item<R: Rows>(
+    alloc: Global,
+    setting: &Setting<'_>,
+    unit: u16,
+    var: u16,
+    val: &Val,
+    body: &[Stmt],
+    state: &mut State,
+    rows: &mut R,
+) -> Result<Option<Outcome>, Halt>
+    ensures ran { IfOk result (λ end. Runs (item_turn unit var (run_block (setting_of setting.now) (block_of body.now)) val.now) (R.tables rows.old) (R.tables rows.new) (R.noted rows.old) (R.noted rows.new) state.old end state.new) }
+    ensures same_app { (schema : List Declaration) → R.is_of rows.old schema → R.is_of rows.new schema }
+    ensures same_tables { R.tables rows.new ≡ R.tables rows.old }
+    ensures same_knows { R.knows rows.new ≡ R.knows rows.old }
+    ensures missing { (a : AskValue) → result ≡ Err (halt.Missing a) → R.knows rows.old a ≡ false }
+{
+    let outer = state.begin(alloc, unit)?;
+    put_value(&mut state.scope.values, var, val)?;
+    let end = run_turn(alloc, setting, body, outer, state, rows)?;
+    Ok(end)
+}
+
+#[cycle(run)]
+#[tactic(auto, using(crate::proofs::RunLaws::rows))]
+fn run_row<R: Rows>(
+    alloc: Global,
+    setting: &Setting<'_>,
+    unit: u16,
+    row: u16,
+    table: u16,
+    key: &Key,
+    body: &[Stmt],
+    state: &mut State,
+    rows: &mut R,
+) -> Result<Option<Outcome>, Halt>
+    ensures ran { IfOk result (λ end. Runs (row_turn unit row table (run_block (setting_of setting.now) (block_of body.now)) key.now) (R.tables rows.old) (R.tables rows.new) (R.noted rows.old) (R.noted rows.new) state.old end state.new) }
+    ensures same_app { (schema : List Declaration) → R.is_of rows.old schema → R.is_of rows.new schema }
+    ensures same_tables { R.tables rows.new ≡ R.tables rows.old }
+    ensures same_knows { R.knows rows.new ≡ R.knows rows.old }
+    ensures missing { (a : AskValue) → result ≡ Err (halt.Missing a) → R.knows rows.old a ≡ false }
+{
+    let place = Place {
+        table,
+        key: *key,
+    };
+    match look(alloc, &state.own, rows, &place)? {
+        None => Ok(None),
+        Some(found) => {
+            if !found.present {
+                return Ok(None);
+            }
+            let outer = state.begin(alloc, unit)?;
+            state.bind(alloc, row, found.values)?;
+            let end = run_turn(alloc, setting, body, outer, state, rows)?;
+            Ok(end)
+        }
+    }
+}
+
+#[cycle(run)]
+#[tactic(auto, using(crate::proofs::RunLaws::turning))]
+fn run_items<R: Rows>(
+    alloc: Global,
+    setting: &Setting<'_>,
+    unit: u16,
+    var: u16,
+    vals: &[Val],
+    body: &[Stmt],
+    state: &mut State,
+    rows: &mut R,
+) -> Result<Option<Outcome>, Halt>
+    ensures ran { IfOk result (λ end. Runs (turns vals.now (item_turn unit var (run_block (setting_of setting.now) (block_of body.now)))) (R.tables rows.old) (R.tables rows.new) (R.noted rows.old) (R.noted rows.new) state.old end state.new) }
+    ensures same_app { (schema : List Declaration) → R.is_of rows.old schema → R.is_of rows.new schema }
+    ensures same_tables { R.tables rows.new ≡ R.tables rows.old }
+    ensures same_knows { R.knows rows.new ≡ R.knows rows.old }
+    ensures missing { (a : AskValue) → result ≡ Err (halt.Missing a) → R.knows rows.old a ≡ false }
+{
+    for val in vals {
+        match run_item(alloc, setting, unit, var, val, body, state, rows)? {
+            None => {}
+            Some(end) => return Ok(Some(end)),
+        }
+    }
+    Ok(None)
+}
+
+#[cycle(run)]
+#[tactic(auto, using(crate::proofs::RunLaws::turning))]
+fn run_rows<R: Rows>(
+    alloc: Global,
+    setting: &Setting<'_>,
+    unit: u16,
+    row: u16,
+    table: u16,
+    keys: &[Key],
+    body: &[Stmt],
+    state: &mut State,
+    rows: &mut R,
+) -> Result<Option<Outcome>, Halt>
+    ensures ran { IfOk result (λ end. Runs (turns keys.now (row_turn unit row table (run_block (setting_of setting.now) (block_of body.now)))) (R.tables rows.old) (R.tables rows.new) (R.noted rows.old) (R.noted rows.new) state.old end state.new) }
+    ensures same_app { (schema : List Declaration) → R.is_of rows.old schema → R.is_of rows.new schema }
+    ensures same_tables { R.tables rows.new ≡ R.tables rows.old }
+    ensures same_knows { R.knows rows.new ≡ R.knows rows.old }
+    ensures missing { (a : AskValue) → result ≡ Err (halt.Missing a) → R.knows rows.old a ≡ false }
+{
+    for key in keys {
+        match run_row(alloc, setting, unit, row, table, key, body, state, rows)? {
+            None => {}
+            Some(end) => return Ok(Some(end)),
+        }
+    }
+    Ok(None)
+}
+
+#[cycle(run)]
+#[tactic(auto, using(crate::proofs::RunLaws::loops))]
+fn loop_items<R: Rows>(
+    alloc: Global,
+    setting: &Setting<'_>,
+    unit: u16,
+    var: u16,
+    vals: &[Val],
+    body: &[Stmt],
+    state: &mut State,
+    rows: &mut R,
+) -> Result<Option<Outcome>, Halt>
+    ensures ran { IfOk result (λ end. Runs (looping vals.now (item_turn unit var (run_block (setting_of setting.now) (block_of body.now))) (block_of body.now)) (R.tables rows.old) (R.tables rows.new) (R.noted rows.old) (R.noted rows.new) state.old end state.new) }
+    ensures same_app { (schema : List Declaration) → R.is_of rows.old schema → R.is_of rows.new schema }
+    ensures same_tables { R.tables rows.new ≡ R.tables rows.old }
+    ensures same_knows { R.knows rows.new ≡ R.knows rows.old }
+    ensures missing { (a : AskValue) → result ≡ Err (halt.Missing a) → R.knows rows.old a ≡ false }
+{
+    match run_items(alloc, setting, unit, var, vals, body, state, rows)? {
+        Some(end) => Ok(Some(end)),
+        None => {
+            state.leave_loop(alloc, body)?;
+            Ok(None)
+        }
+    }
+}
+
+#[cycle(run)]
+#[tactic(auto, using(crate::proofs::RunLaws::loops))]
+fn loop_rows<R: Rows>(
+    alloc: Global,
+    setting: &Setting<'_>,
+    unit: u16,
+    row: u16,
+    table: u16,
+    keys: &[Key],
+    body: &[Stmt],
+    state: &mut State,
+    rows: &mut R,
+) -> Result<Option<Outcome>, Halt>
+    ensures ran { IfOk result (λ end. Runs (looping keys.now (row_turn unit row table (run_block (setting_of setting.now) (block_of body.now))) (block_of body.now)) (R.tables rows.old) (R.tables rows.new) (R.noted rows.old) (R.noted rows.new) state.old end state.new) }
+    ensures same_app { (schema : List Declaration) → R.is_of rows.old schema → R.is_of rows.new schema }
+    ensures same_tables { R.tables rows.new ≡ R.tables rows.old }
+    ensures same_knows { R.knows rows.new ≡ R.knows rows.old }
+    ensures missing { (a : AskValue) → result ≡ Err (halt.Missing a) → R.knows rows.old a ≡ false }
+{
+    match run_rows(alloc, setting, unit, row, table, keys, body, state, rows)? {
+        Some(end) => Ok(Some(end)),
+        None => {
+            state.leave_loop(alloc, body)?;
+            Ok(None)
+        }
+    }
+}
+
+#[cycle(run)]
+#[tactic(auto, using(crate::proofs::RunLaws::steps))]
+fn run_each<R: Rows>(
+    alloc: Global,
+    setting: &Setting<'_>,
+    var: Ident,
+    list: Ident,
+    body: &[Stmt],
+    state: &mut State,
+    rows: &mut R,
+) -> Result<Option<Outcome>, Halt>
+    ensures ran { IfOk result (λ end. Runs (run_command (setting_of setting.now) (ForEach var list (block_of body.now))) (R.tables rows.old) (R.tables rows.new) (R.noted rows.old) (R.noted rows.new) state.old end state.new) }
+    ensures same_app { (schema : List Declaration) → R.is_of rows.old schema → R.is_of rows.new schema }
+    ensures same_tables { R.tables rows.new ≡ R.tables rows.old }
+    ensures same_knows { R.knows rows.new ≡ R.knows rows.old }
+    ensures missing { (a : AskValue) → result ≡ Err (halt.Missing a) → R.knows rows.old a ≡ false }
+{
+    let vals = items_of(alloc, setting, list.num)?;
+    let number = var.num;
+    let unit = loop_unit(setting, number)?;
+    let end = loop_items(alloc, setting, unit, number, vals.items(), body, state, rows)?;
+    Ok(end)
+}
+
+#[cycle(run)]
+#[tactic(auto, using(crate::proofs::RunLaws::fors))]
+fn run_for<R: Rows>(
+    alloc: Global,
+    setting: &Setting<'_>,
+    row: Ident,
+    table: Ident,
+    cond: &Option<Cond>,
+    body: &[Stmt],
+    state: &mut State,
+    rows: &mut R,
+) -> Result<Option<Outcome>, Halt>
+    ensures ran { IfOk result (λ end. Runs (run_command (setting_of setting.now) (ForRows row table (option_map test_of cond.now) (block_of body.now))) (R.tables rows.old) (R.tables rows.new) (R.noted rows.old) (R.noted rows.new) state.old end state.new) }
+    ensures same_app { (schema : List Declaration) → R.is_of rows.old schema → R.is_of rows.new schema }
+    ensures same_tables { R.tables rows.new ≡ R.tables rows.old }
+    ensures same_knows { R.knows rows.new ≡ R.knows rows.old }
+    ensures missing { (a : AskValue) → result ≡ Err (halt.Missing a) → R.knows rows.old a ≡ false }
+{
+    let bound = row.num;
+    let number = table.num;
+    let scratch = state.scope.copied(alloc)?;
+    let Some(keys) = met_keys(alloc, bound, number, cond, &state.own, scratch, rows)? else {
+        return Ok(Some(Outcome::Range));
+    };
+    let unit = loop_unit(setting, bound)?;
+    let end = loop_rows(alloc, setting, unit, bound, number, keys.items(), body, state, rows)?;
+    Ok(end)
+}

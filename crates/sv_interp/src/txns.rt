@@ -1,0 +1,168 @@
+ghost use Rattle.std.specs.Prelude.{◌≡◌, ◌<◌, ◌≤◌, ◌^◌, length, IfOk, Err, false, List as Items, map, slice_get};
+ghost use Rattle.sv_app.specs.Schema.{Declaration, schema_of};
+ghost use Rattle.sv_app.specs.Tables.{Tables};
+ghost use Rattle.sv_app.specs.Trees.{block_of, transactions_of};
+ghost use Rattle.sv_effect.specs.declared.reads.Ask.{Ask as AskValue};
+ghost use Rattle.sv_effect.specs.declared.reads.Halt.TheVariants as halt;
+ghost use Rattle.sv_effect.specs.Follows.{Follows};
+ghost use Rattle.sv_effect.specs.Run.{Goes, Ends, argument, body_of, started, result_of, run_body, run, ran_of};
+ghost use Rattle.sv_interp.specs.Machine.{stand};
+
+use crate::loops::put_loops;
+use crate::needs::needs;
+use crate::runs::run_all;
+use crate::scopes::Scope;
+use crate::slots::prepend;
+use crate::states::{Setting, State, beginning, instance_of};
+use std::alloc::Global;
+use sv_app::{App, Arg, Request, Stmt, Table};
+use sv_effect::{Halt, Outcome, Ran, Rows};
+use sv_value::{List, NoMemory, Val};
+
+fn argument(arg: &Arg) -> Val
+    ensures { result ≡ argument arg.now }
+{
+    match arg {
+        Arg::Int(number) => Val::Int(*number),
+        Arg::Text(text) => Val::Text(*text),
+        Arg::Ints(_) => Val::Int(0),
+    }
+}
+
+fn arguments(alloc: Global, args: &[Arg]) -> Result<Vec<Val>, NoMemory>
+    ensures { IfOk result (λ vals. vals.items ≡ map argument args.now) }
+{
+    let mut vals = Vec::new(alloc);
+    for arg in args {
+        vals.push(argument(arg))?;
+    }
+    Ok(vals)
+}
+
+/// Where a run begins.
+fn start(alloc: Global, args: &[Arg]) -> Result<State, NoMemory>
+    ensures { IfOk result (λ state. (t : Tables) → stand t state ≡ started args.now t) }
+{
+    let scope = Scope {
+        values: arguments(alloc, args)?,
+        rows: Vec::new(alloc),
+        before: List::new(alloc),
+        progress: beginning(alloc, 0, 0),
+    };
+    Ok(State {
+        scope,
+        own: Vec::new(alloc),
+        effects: List::new(alloc),
+        replies: List::new(alloc),
+        instances: List::new(alloc),
+    })
+}
+
+/// What a run comes to that wasn't ended before.
+fn finish(alloc: Global, tables: &[Table], state: State) -> Result<Ran, NoMemory>
+    ensures result { IfOk result (λ ran. (t : Tables) → result_of (schema_of tables.now) (Goes (stand t state)) ≡ ran_of ran) }
+    ensures few { IfOk result (λ ran. length ran.effects ≤ 64) }
+    ensures instances { IfOk result (λ ran. length ran.trace < 2 ^ 32) }
+{
+    let State {
+        scope,
+        effects,
+        replies,
+        instances,
+        ..
+    } = state;
+    if effects.len() > 64 || instances.len() >= 4_294_967_295 {
+        return Err(NoMemory);
+    }
+    let needs = needs(alloc, tables, effects.items())?;
+    let trace = prepend(instance_of(scope.progress), instances)?;
+    Ok(Ran {
+        outcome: Outcome::Done(replies),
+        effects,
+        needs,
+        trace,
+    })
+}
+
+/// What a run comes to that was ended.
+fn ended(alloc: Global, outcome: Outcome) -> Ran
+    ensures result { (schema : Items Declaration) → result_of schema (Ends outcome) ≡ ran_of result }
+    ensures few { length result.effects ≤ 64 }
+    ensures instances { length result.trace < 2 ^ 32 }
+{
+    Ran {
+        outcome,
+        effects: List::new(alloc),
+        needs: List::new(alloc),
+        trace: List::new(alloc),
+    }
+}
+
+#[tactic(auto, using(crate::proofs::TxnLaws::endings))]
+fn run_body<R: Rows>(
+    alloc: Global,
+    tables: &[Table],
+    body: &[Stmt],
+    args: &[Arg],
+    rows: &mut R,
+) -> Result<Ran, Halt>
+    ensures followed { IfOk result (λ ran. Follows (R.tables rows.old) (R.tables rows.new) (R.noted rows.old) (R.noted rows.new) (λ t. run_body (schema_of tables.now) (block_of body.now) args.now t ≡ ran_of ran)) }
+    ensures same_app { (schema : Items Declaration) → R.is_of rows.old schema → R.is_of rows.new schema }
+    ensures same_tables { R.tables rows.new ≡ R.tables rows.old }
+    ensures same_knows { R.knows rows.new ≡ R.knows rows.old }
+    ensures missing { (a : AskValue) → result ≡ Err (halt.Missing a) → R.knows rows.old a ≡ false }
+    ensures few { IfOk result (λ ran. length ran.effects ≤ 64) }
+    ensures instances { IfOk result (λ ran. length ran.trace < 2 ^ 32) }
+{
+    let mut loops = Vec::new(alloc);
+    put_loops(&mut loops, body)?;
+    let setting = Setting {
+        tables,
+        args,
+        loops: loops.as_slice(),
+    };
+    let mut state = start(alloc, args)?;
+    match run_all(alloc, &setting, body, &mut state, rows)? {
+        Some(outcome) => {
+            let ran = ended(alloc, outcome);
+            Ok(ran)
+        }
+        None => {
+            let ran = finish(alloc, tables, state)?;
+            Ok(ran)
+        }
+    }
+}
+
+/// The statements of a transaction.
+fn body_of(app: &App, number: u16) -> &[Stmt]
+    ensures { block_of result.now ≡ body_of (slice_get (transactions_of app.now.txns.items) number) }
+{
+    match app.txns.get(number as usize) {
+        Some(txn) => txn.body.as_slice(),
+        None => &[],
+    }
+}
+
+/// Runs the transaction of a request on rows that it asks for. What it comes to is what the run comes to on whole
+/// tables, on all tables that agree with what the rows answered; and it halts for a missing answer only where the rows
+/// don't know it. There are at most 64 changes, and fewer than 2^32 instances.
+pub fn run_txn<R: Rows>(
+    alloc: Global,
+    app: &App,
+    request: &Request,
+    rows: &mut R,
+) -> Result<Ran, Halt>
+    ensures followed { IfOk result (λ ran. Follows (R.tables rows.old) (R.tables rows.new) (R.noted rows.old) (R.noted rows.new)
+        (λ t. run (schema_of app.now.tables.items) (transactions_of app.now.txns.items) request.now t ≡ ran_of ran)) }
+    ensures same_app { (schema : Items Declaration) → R.is_of rows.old schema → R.is_of rows.new schema }
+    ensures same_tables { R.tables rows.new ≡ R.tables rows.old }
+    ensures same_knows { R.knows rows.new ≡ R.knows rows.old }
+    ensures missing { (a : AskValue) → result ≡ Err (halt.Missing a) → R.knows rows.old a ≡ false }
+    ensures few { IfOk result (λ ran. length ran.effects ≤ 64) }
+    ensures instances { IfOk result (λ ran. length ran.trace < 2 ^ 32) }
+{
+    let body = body_of(app, request.txn);
+    let ran = run_body(alloc, &app.tables, body, request.args.items(), rows)?;
+    Ok(ran)
+}
