@@ -2,8 +2,11 @@
 #![tactic(auto)]
 
 mod after;
+mod broken;
 mod changes;
+mod clashes;
 mod initial;
+mod keys;
 mod left;
 mod rules;
 mod verdicts;
