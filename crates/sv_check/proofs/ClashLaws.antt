@@ -1,14 +1,10 @@
 -- Pairs of keys and values are put one after the other, and the least key that clashes is found.
 use Rattle.std.proofs.Common.{◌≡◌, ◌⊎◌, inl, inr, ⊎_elim, ℕ, zero, suc, ◌+◌, ◌<◌, ◌≤◌, ◌||◌, ◌&&◌, not, Bool, true, false, cond, List, [], ◌∷◌, ◌++◌, take, get_or, length, Option, Some, None, slice_get, refl, sym, ap, subst, ◌∙◌, arith}
-use Rattle.std.specs.Prelude.{int_eq}
-use Rattle.std.specs.List.{list_any, flat_map}
-use Rattle.std.specs.Ordering.{is_eq}
 use Rattle.std.specs.FinMap.{get}
-use Rattle.std.proofs.lemmas.Bool.{cases_eq, cases_lt}
+use Rattle.std.proofs.lemmas.Bool.{cases_eq}
 use Rattle.std.proofs.lemmas.List.{take_all}
 use Rattle.std.proofs.lemmas.Option.{slice_get_within}
 use Rattle.sv_value.specs.declared.values.Key.{Key}
-use Rattle.sv_value.specs.Orders.{key_cmp}
 use Rattle.sv_app.specs.declared.apps.Ident.{Ident}
 use Rattle.sv_app.specs.declared.gots.Got.{Got}
 use Rattle.sv_app.specs.declared.places.Place.{Place}
@@ -20,7 +16,7 @@ use Rattle.sv_effect.proofs.FollowLaws.{quiet, so, next_to}
 use Rattle.sv_check.specs.declared.left.LeftRow.{LeftRow}
 use Rattle.sv_check.specs.Left.{over, left_rows}
 use Rattle.sv_check.specs.Least.{IsLeast, lesser}
-use Rattle.sv_check.specs.Clashes.{Pair, same_got, values_of, values_at, has_other, with_clash, Clashes}
+use Rattle.sv_check.specs.Clashes.{Pair, values_of, values_at, has_other, with_clash, Clashes}
 use Rattle.sv_check.proofs.LeastLaws.{least_both, least_same, least_one}
 use Rattle.sv_check.proofs.ListLaws.{get_at}
 use Rattle.sv_check.proofs.SetLaws.{flat_more}

@@ -5,6 +5,7 @@ pub mod ClashLaws
 pub mod FailLaws
 pub mod FindLaws
 pub mod InitialLaws
+pub mod LeastBrokenLaws
 pub mod LeastLaws
 pub mod LeftLaws
 pub mod ListLaws

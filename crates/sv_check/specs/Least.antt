@@ -67,3 +67,17 @@ RowSays schema left place row rule breaks t = IsAfter schema left t → get (ove
 
 abbrev pub PlaceSays : List Declaration → List (Place × LeftRow) → Place → Rule → Bool → Tables → Type 0
 PlaceSays schema left place rule broken t = IsAfter schema left t → Says broken (BrokenAt schema (over left t) place.table rule place.key)
+
+-- the least of these keys at which the rule is broken, and the least of all
+abbrev pub LeastAmong : List Declaration → List (Place × LeftRow) → ℕ → Rule → List Key → Option Key → Tables → Type 0
+LeastAmong schema left table rule keys found t = IsAfter schema left t → IsLeast (λ key. (has_key key keys ≡ true) × BrokenAt schema (over left t) table rule key) found
+
+abbrev pub LeastBroken : List Declaration → List (Place × LeftRow) → ℕ → Rule → Option Key → Tables → Type 0
+LeastBroken schema left table rule found t = IsAfter schema left t → IsLeast (BrokenAt schema (over left t) table rule) found
+
+-- whether rows that no change left may break the rule: another row may have their value, or the row that they refer to may be gone
+abbrev pub walks : Rule → List (Place × LeftRow) → Bool
+walks (Bound check) left = false
+walks (OneOf column texts) left = false
+walks (Different column) left = true
+walks (Refers column parent target) left = has_absent left parent.num

@@ -15,7 +15,7 @@ use crate::left::{LeftRow, look};
 use std::alloc::Global;
 use sv_app::{Got, Ident, Place};
 use sv_effect::{Halt, Rows};
-use sv_value::{Key, NoMemory};
+use sv_value::{Key, NoMemory, Val};
 
 /// Whether they are one value.
 fn same_got(one: &Got, other: &Got) -> bool
@@ -37,6 +37,8 @@ fn add_value(
 ) -> Result<(), NoMemory>
     ensures { OnOk result (pairs.new.items ≡ pairs.old.items ++ values_of column.now key.now (left_rows row)) }
 {
+    // The check wants to see the type that is inside a key.
+    let _val: Option<Val> = None;
     if let Some(row) = row {
         if row.present {
             pairs.push((*key, value_of(&row, column)))?;

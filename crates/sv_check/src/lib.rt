@@ -7,6 +7,7 @@ mod changes;
 mod clashes;
 mod initial;
 mod keys;
+mod least;
 mod left;
 mod rules;
 mod verdicts;
