@@ -23,6 +23,7 @@ use Rattle.sv_effect.specs.Initial.{AreDistinct}
 use Rattle.sv_effect.specs.TablesOfCut.{init_place}
 use Rattle.sv_check.specs.declared.initial.Held.{Held}
 use Rattle.sv_check.specs.Initial.{initial_row, initial_tables, HasEarlier, Fails}
+use Rattle.sv_check.specs.Least.{IsOwn}
 use Rattle.sv_check.specs.Rules.{is_met, is_listed}
 use Rattle.sv_check.specs.Tests.{val_in, held_cmp, held_of, rules_of, held_by, is_held, is_there, referred, fails}
 use Rattle.sv_check.proofs.InitialLaws.{initial_at, get-initial, IsInitial, initial_from, there-initial}
@@ -210,13 +211,6 @@ breaks schema init i row (Refers column parent target) e =
     λ holds. clash (is_there (referred row column.num parent.num) init)
       (present_there init row column parent.num (holds (declared_binds schema parent.num (below_from parent.num (length schema) parts.0))))
       (not_true (is_there (referred row column.num parent.num) init) parts.1)
-
--- a rule that doesn't compare rows
-abbrev pub IsOwn : Rule → Type 0
-IsOwn (Different column) = ⊥
-IsOwn (Bound check) = Unit {0}
-IsOwn (OneOf column texts) = Unit {0}
-IsOwn (Refers column parent target) = Unit {0}
 
 and_not : (a b : Bool) → (a && not b) ≡ false → a ≡ true → b ≡ true
 and_not true true e h = refl

@@ -1,8 +1,12 @@
 pub mod AnswerLaws
+pub mod BrokenLaws
 pub mod ChangeLaws
+pub mod ClashLaws
 pub mod FailLaws
 pub mod FindLaws
 pub mod InitialLaws
+pub mod LeastBrokenLaws
+pub mod LeastLaws
 pub mod LeftLaws
 pub mod ListLaws
 pub mod RuleLaws
@@ -10,4 +14,5 @@ pub mod SetLaws
 pub mod SlotLaws
 pub mod TableLaws
 pub mod ValueLaws
+pub mod WalkLaws
 pub mod WriteLaws

@@ -1,4 +1,6 @@
+pub mod Clashes
 pub mod Initial
+pub mod Least
 pub mod Left
 pub mod Rules
 pub mod Tests

@@ -2,8 +2,12 @@
 #![tactic(auto)]
 
 mod after;
+mod broken;
 mod changes;
+mod clashes;
 mod initial;
+mod keys;
+mod least;
 mod left;
 mod rules;
 mod verdicts;

@@ -1,6 +1,6 @@
 //! What checks and lists ask of values.
 
-ghost use Rattle.std.specs.Prelude.{◌≡◌, ◌-ℤ◌, int_le};
+ghost use Rattle.std.specs.Prelude.{◌≡◌, ◌-ℤ◌, int_le, true};
 ghost use Rattle.sv_app.specs.declared.gots.Got.TheVariants as gots;
 ghost use Rattle.sv_app.specs.Valid.{number_of};
 ghost use Rattle.sv_check.specs.Rules.{IsSmall, is_listed};
@@ -31,6 +31,19 @@ pub(crate) fn is_within(hi: Got, lo: Got, most: i64) -> bool
     match above(hi, lo) {
         Got::Num(difference) => difference <= most as i128,
         Got::Text(_) => unreachable!(),
+    }
+}
+
+/// Whether a difference to it can't leave 128 bits.
+pub(crate) fn is_small(got: &Got) -> bool
+    ensures { result ≡ true → IsSmall got.now }
+{
+    match got {
+        Got::Num(number) => {
+            *number >= -1_329_227_995_784_915_872_903_807_060_280_344_576
+                && *number <= 1_329_227_995_784_915_872_903_807_060_280_344_576
+        }
+        Got::Text(_) => true,
     }
 }
 

@@ -1,0 +1,136 @@
+-- Keys that are walked from one to the next, and those of rows that changes left.
+use Rattle.std.proofs.Common.{◌≡◌, ◌≢◌, ◌⊎◌, inl, inr, ⊎_elim, ℕ, zero, suc, ◌+◌, ◌<◌, ◌≤◌, ◌||◌, ◌&&◌, ◌==◌, Bool, true, false, cond, List, [], ◌∷◌, ◌++◌, take, get_or, length, Option, Some, None, refl, sym, ap, subst, ◌∙◌, arith}
+use Rattle.std.specs.List.{list_any}
+use Rattle.std.specs.declared.cmp.Ordering.{Ordering}
+use Rattle.std.specs.declared.cmp.Ordering.TheVariants.{Less, Equal, Greater}
+use Rattle.std.specs.Ordering.{is_lt, is_eq, nat_cmp, ordering_then, eq_by_cmp}
+use Rattle.std.proofs.lemmas.Bool.Decides.{nat_tests}
+use Rattle.std.proofs.lemmas.Cmp.{eq_by_cmp_equiv}
+use Rattle.std.proofs.lemmas.List.{take_more, take_all}
+use Rattle.std.proofs.lemmas.List.Folds.{list_any-append}
+use Rattle.sv_value.specs.declared.values.Key.{Key}
+use Rattle.sv_value.specs.Orders.{key_cmp}
+use Rattle.sv_value.proofs.OrderLaws.{key_total}
+use Rattle.sv_app.specs.declared.places.Place.{Place}
+use Rattle.sv_app.specs.Tables.{Tables, place_cmp}
+use Rattle.sv_app.specs.Valid.{place_at}
+use Rattle.sv_effect.specs.Agrees.{is_present, is_after, IsNextKey}
+use Rattle.sv_effect.specs.Follows.{Follows}
+use Rattle.sv_effect.specs.Reads.{ReadValue}
+use Rattle.sv_effect.specs.TablesOfCut.{is_place}
+use Rattle.sv_effect.proofs.FollowLaws.{quiet, so, next_to}
+use Rattle.sv_check.specs.declared.left.LeftRow.{LeftRow}
+use Rattle.sv_check.specs.Left.{is_left}
+use Rattle.sv_check.specs.Least.{has_key, HasPresent, AreCandidates}
+use Rattle.sv_check.proofs.LeastLaws.{neither}
+use Rattle.sv_check.proofs.RuleLaws.{clash}
+
+-- the keys of present rows up to one are among these
+abbrev pub HasUpTo : Tables → ℕ → Option Key → List Key → Type 0
+HasUpTo t table after keys = (key : Key) → is_present t table key ≡ true → is_after after key ≡ false → has_key key keys ≡ true
+
+or_left_true : (a b : Bool) → a ≡ true → (a || b) ≡ true
+or_left_true true b e = refl
+or_left_true false b e = absurd cc
+
+or_right_true : (a b : Bool) → b ≡ true → (a || b) ≡ true
+or_right_true true b e = refl
+or_right_true false b e = e
+
+has_more : (key : Key) (keys more : List Key) → has_key key (keys ++ more) ≡ (has_key key keys || has_key key more)
+has_more key keys more = list_any-append (eq_by_cmp key_cmp key) keys more
+
+has_itself : (key : Key) → has_key key (key ∷ []) ≡ true
+has_itself key = or_left_true (eq_by_cmp key_cmp key key) false ((eq_by_cmp_equiv key_total).refl key)
+
+further : (t : Tables) (table : ℕ) (after : Option Key) (next : Key) (keys : List Key) → IsNextKey t table after (Some next) → HasUpTo t table after keys → HasUpTo t table (Some next) (keys ++ next ∷ [])
+further t table after next keys is up_to key present not_after = has_more key keys (next ∷ []) ∙ split (is_after after key) refl
+  where
+    split : (b : Bool) → is_after after key ≡ b → (has_key key keys || has_key key (next ∷ [])) ≡ true
+    split false e = or_left_true (has_key key keys) (has_key key (next ∷ [])) (up_to key present e)
+    split true e = or_right_true (has_key key keys) (has_key key (next ∷ [])) (same (is_lt (key_cmp key next)) refl)
+      where
+        same : (b : Bool) → is_lt (key_cmp key next) ≡ b → has_key key (next ∷ []) ≡ true
+        same true less = clash (is_present t table key) present (is.2 key e less)
+        same false less = ap (λ k. has_key key (k ∷ [])) (sym (neither key next less not_after)) ∙ has_itself key
+
+pub none_walked : (o n : Option Tables) (a b : Option (List ReadValue)) (table : ℕ) (after : Option Key) (keys : List Key) → n ≡ o → b ≡ a → after ≡ None → Follows o n a b (λ t. HasUpTo t table after keys)
+none_walked o n a b table after keys same stands is = quiet o n a b _ same stands (λ t key present not_after. clash (is_after after key) (ap (λ x. is_after x key) is) not_after)
+
+pub one_walked : (o m n : Option Tables) (a b c : Option (List ReadValue)) (table : ℕ) (after found : Option Key) (next : Key) (keys : List Key)
+    → Follows o m a b (λ t. HasUpTo t table after keys) → Follows m n b c (λ t. IsNextKey t table after found) → found ≡ Some next
+    → Follows o n a c (λ t. HasUpTo t table (Some next) (keys ++ next ∷ []))
+one_walked o m n a b c table after found next keys f g is =
+    next_to o m n a b c _ _ _ f g (λ t up_to is_next. further t table after next keys (subst (IsNextKey t table after) is is_next) up_to)
+
+pub all_walked : (o m n : Option Tables) (a b c : Option (List ReadValue)) (table : ℕ) (after found : Option Key) (keys : List Key)
+    → Follows o m a b (λ t. HasUpTo t table after keys) → Follows m n b c (λ t. IsNextKey t table after found) → found ≡ None
+    → Follows o n a c (λ t. HasPresent t table keys)
+all_walked o m n a b c table after found keys f g is =
+    next_to o m n a b c _ _ _ f g (λ t up_to is_next key present. up_to key present (before t key present (subst (IsNextKey t table after) is is_next) (is_after after key) refl))
+  where
+    before : (t : Tables) (key : Key) → is_present t table key ≡ true → IsNextKey t table after None → (b : Bool) → is_after after key ≡ b → is_after after key ≡ false
+    before t key present last true e = clash (is_present t table key) present (last key e)
+    before t key present last false e = e
+
+pub ruleset walking = (none_walked, one_walked, all_walked)
+
+same_table : (table : ℕ) (key : Key) (p : Place) → (p.table == table) ≡ true → is_place (place_at table key) p ≡ eq_by_cmp key_cmp key p.key
+same_table table key p e = ap (λ o. is_eq (ordering_then o (key_cmp key p.key))) (tie table p.table e)
+  where
+    tie : (n m : ℕ) → (m == n) ≡ true → nat_cmp n m ≡ Equal
+    tie n m e = grind (arith, nat_tests)
+
+other_table : (table : ℕ) (key : Key) (p : Place) → (p.table == table) ≡ false → is_place (place_at table key) p ≡ false
+other_table table key p e = split (nat_cmp table p.table) refl
+  where
+    untied : (n m : ℕ) → (m == n) ≡ false → nat_cmp n m ≡ Equal → ⊥
+    untied n m e h = grind (arith, nat_tests)
+
+    split : (o : Ordering) → nat_cmp table p.table ≡ o → is_eq (ordering_then o (key_cmp key p.key)) ≡ false
+    split Less h = refl
+    split Equal h = absurd (untied table p.table e h)
+    split Greater h = refl
+
+or_assoc : (a b c : Bool) → ((a || b) || c) ≡ (a || (b || c))
+or_assoc true b c = refl
+or_assoc false b c = refl
+
+or_none : (a : Bool) → (a || false) ≡ a
+or_none true = refl
+or_none false = refl
+
+left_more : (p : Place) (left : List (Place × LeftRow)) (i : ℕ) (e : Place × LeftRow) → i < length left → e ≡ get_or left i e → is_left p (take (i + 1) left) ≡ (is_left p (take i left) || is_place p e.0)
+left_more p left i e less is =
+    ap (is_left p) (take_more left i e less) ∙ list_any-append (λ x. is_place p x.0) (take i left) (get_or left i e ∷ [])
+    ∙ ap (λ b. is_left p (take i left) || b) (or_none (is_place p (get_or left i e).0) ∙ ap (λ x. is_place p x.0) (sym is))
+
+-- the key of a row of the table is added
+pub left_added : (table : ℕ) (left : List (Place × LeftRow)) (i : ℕ) (e : Place × LeftRow) (before : Bool) (keys : List Key) (key : Key) → i < length left → e ≡ get_or left i e → (e.0.table == table) ≡ true
+    → has_key key keys ≡ (before || is_left (place_at table key) (take i left)) → has_key key (keys ++ e.0.key ∷ []) ≡ (before || is_left (place_at table key) (take (i + 1) left))
+left_added table left i e before keys key less is here held =
+    has_more key keys (e.0.key ∷ []) ∙ (λ j. held j || or_none (eq_by_cmp key_cmp key e.0.key) j)
+    ∙ or_assoc before (is_left (place_at table key) (take i left)) (eq_by_cmp key_cmp key e.0.key)
+    ∙ ap (λ b. before || b) (ap (λ b. is_left (place_at table key) (take i left) || b) (sym (same_table table key e.0 here)) ∙ sym (left_more (place_at table key) left i e less is))
+
+pub left_passed : (table : ℕ) (left : List (Place × LeftRow)) (i : ℕ) (e : Place × LeftRow) (before : Bool) (keys : List Key) (key : Key) → i < length left → e ≡ get_or left i e → (e.0.table == table) ≡ false
+    → has_key key keys ≡ (before || is_left (place_at table key) (take i left)) → has_key key keys ≡ (before || is_left (place_at table key) (take (i + 1) left))
+left_passed table left i e before keys key less is there held =
+    held ∙ ap (λ b. before || b) (sym (left_more (place_at table key) left i e less is ∙ ap (λ b. is_left (place_at table key) (take i left) || b) (other_table table key e.0 there) ∙ or_none (is_left (place_at table key) (take i left))))
+
+-- the table was walked, and the keys of the rows that changes left were added
+pub were_walked : (o n : Option Tables) (a b : Option (List ReadValue)) (left : List (Place × LeftRow)) (table : ℕ) (keys all : List Key)
+    → Follows o n a b (λ t. HasPresent t table keys) → ((key : Key) → has_key key all ≡ (has_key key keys || is_left (place_at table key) left)) → Follows o n a b (AreCandidates true left table all)
+were_walked o n a b left table keys all f more = so o n a b _ _ f (λ t present. record {
+  changed = λ key is. more key ∙ or_right_true (has_key key keys) (is_left (place_at table key) left) is;
+  present = λ _ key is. more key ∙ or_left_true (has_key key keys) (is_left (place_at table key) left) (present key is);
+})
+
+pub not_walked : (o n : Option Tables) (a b : Option (List ReadValue)) (left : List (Place × LeftRow)) (table : ℕ) (keys all : List Key) → n ≡ o → b ≡ a
+    → ((key : Key) → has_key key all ≡ (has_key key keys || is_left (place_at table key) left)) → Follows o n a b (AreCandidates false left table all)
+not_walked o n a b left table keys all same stands more = quiet o n a b _ same stands (λ t. record {
+  changed = λ key is. more key ∙ or_right_true (has_key key keys) (is_left (place_at table key) left) is;
+  present = λ e key is. absurd cc;
+})
+
+pub ruleset candidates = (were_walked, not_walked)

@@ -1,0 +1,44 @@
+-- Keys with values of a column, and keys that have a value which another has.
+use Rattle.std.specs.Prelude.{◌≡◌, ℕ, ◌&&◌, not, Bool, true, false, List, [], ◌∷◌, Option, Some, None, slice_get, if◌then◌else◌}
+use Rattle.std.specs.List.{list_any, flat_map}
+use Rattle.std.specs.Ordering.{int_eq, is_eq}
+use Rattle.std.specs.FinMap.{get}
+use Rattle.sv_value.specs.declared.values.Key.{Key}
+use Rattle.sv_value.specs.Orders.{text_cmp, key_cmp}
+use Rattle.sv_app.specs.declared.apps.Ident.{Ident}
+use Rattle.sv_app.specs.declared.gots.Got.{Got}
+use Rattle.sv_app.specs.declared.gots.Got.TheVariants.{Num, Text}
+use Rattle.sv_app.specs.Tables.{Row, Tables}
+use Rattle.sv_app.specs.Valid.{value_of, place_at}
+use Rattle.sv_check.specs.Least.{lesser}
+
+abbrev pub Pair : Type 0
+Pair = Key × Got
+
+abbrev pub same_got : Got → Got → Bool
+same_got (Num n) (Num m) = int_eq n m
+same_got (Text s) (Text t) = is_eq (text_cmp s t)
+same_got (Num n) (Text t) = false
+same_got (Text s) (Num m) = false
+
+-- a present row's key and value
+abbrev pub values_of : Ident → Key → Option Row → List Pair
+values_of column key None = []
+values_of column key (Some row) = if row.present then (key, value_of row column) ∷ [] else []
+
+-- of the rows at these keys
+abbrev pub values_at : Tables → ℕ → Ident → List Key → List Pair
+values_at t table column keys = flat_map (λ key. values_of column key (get t (place_at table key))) keys
+
+abbrev pub has_other : Key → Got → List Pair → Bool
+has_other key value pairs = list_any (λ p. same_got p.1 value && not (is_eq (key_cmp p.0 key))) pairs
+
+abbrev pub with_clash : Option Key → List Pair → Key → Got → Option Key
+with_clash found pairs key value = if has_other key value pairs then lesser found (Some key) else found
+
+-- one of the pairs has the key, and a value that another key has
+pub record Clashes (pairs : List Pair) (key : Key) : Type 0 where
+  pub number : ℕ
+  pub value : Got
+  pub at : slice_get pairs number ≡ Some (key, value)
+  pub other : has_other key value pairs ≡ true

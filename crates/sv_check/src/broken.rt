@@ -1,0 +1,215 @@
+//! Whether a rule is broken at a key after changes.
+
+ghost use Rattle.std.specs.Prelude.{◌≡◌, true, false, Err, List, IfOk, slice_get};
+ghost use Rattle.sv_app.specs.Kinds.{is_grow_only};
+ghost use Rattle.sv_app.specs.Schema.{Declaration, schema_of, rule_of, invariant_of};
+ghost use Rattle.sv_app.specs.Valid.{number_of, value_of, side_of, key_by, Binds, IsInvariant};
+ghost use Rattle.sv_effect.specs.declared.reads.Ask.{Ask as AskValue};
+ghost use Rattle.sv_effect.specs.declared.reads.Halt.TheVariants as halt;
+ghost use Rattle.sv_effect.specs.Agrees.{is_present};
+ghost use Rattle.sv_effect.specs.Follows.{Follows};
+ghost use Rattle.sv_check.specs.Left.{over, left_row, is_left};
+ghost use Rattle.sv_check.specs.Least.{Says, has_absent, IsOwn, RowSays, PlaceSays};
+ghost use Rattle.sv_check.specs.Rules.{is_met};
+
+use crate::left::{LeftRow, is_place, left_at, look};
+use crate::rules::{is_listed, is_small, is_within};
+use std::alloc::Global;
+use sv_app::{App, Check, Got, Ident, Inv, InvBody, Kind, Place};
+use sv_effect::{Halt, Rows, ask_row};
+use sv_value::{Key, NoMemory, Val};
+
+/// The value of a column; one that isn't there counts as zero.
+pub fn value_of(row: &LeftRow, column: &Ident) -> Got
+    ensures { result ≡ value_of (left_row row.now) column.now }
+{
+    let values = row.values.items();
+    let place = column.num as usize;
+    if place < values.len() {
+        values[place]
+    } else {
+        Got::Num(0)
+    }
+}
+
+/// A side of a check.
+fn side_of(row: &LeftRow, side: Option<Ident>) -> Got
+    ensures { number_of result ≡ side_of (left_row row.now) side }
+{
+    match side {
+        Some(column) => value_of(row, &column),
+        None => Got::Num(0),
+    }
+}
+
+fn is_met(row: &LeftRow, check: &Check) -> Result<bool, NoMemory>
+    ensures { IfOk result (λ met. met ≡ is_met (left_row row.now) check.now) }
+{
+    let hi = side_of(row, check.hi);
+    let lo = side_of(row, check.lo);
+    if !is_small(&hi) || !is_small(&lo) {
+        return Err(NoMemory);
+    }
+    Ok(is_within(hi, lo, check.most))
+}
+
+/// The key that the value is.
+fn key_by(got: &Got) -> Result<Key, NoMemory>
+    ensures { IfOk result (λ key. key ≡ key_by got.now) }
+{
+    match got {
+        Got::Num(number) => match i64::try_from(*number) {
+            Ok(number) => Ok(Key {
+                first: Val::Int(number),
+                second: None,
+            }),
+            Err(_) => Err(NoMemory),
+        },
+        Got::Text(text) => Ok(Key {
+            first: Val::Text(*text),
+            second: None,
+        }),
+    }
+}
+
+/// Whether rows of such a table are never removed.
+fn is_grow_only(kind: Kind) -> bool
+    ensures { result ≡ is_grow_only kind }
+{
+    match kind {
+        Kind::Aoset | Kind::Uoset | Kind::Auset => true,
+        Kind::Plain | Kind::Arset => false,
+    }
+}
+
+/// Whether a reference to the table binds a row.
+#[tactic(auto, using(crate::proofs::BrokenLaws::binding))]
+fn binds(app: &App, parent: u16, present: bool) -> bool
+    ensures { Says result (Binds (slice_get (schema_of app.now.tables.items) parent) present) }
+{
+    let table = parent as usize;
+    table < app.tables.len() && (is_grow_only(app.tables[table].kind) || present)
+}
+
+/// Whether changes left a row there.
+fn is_left(left: &[(Place, LeftRow)], place: &Place) -> bool
+    ensures { result ≡ is_left place.now left.now }
+{
+    for (other, _) in left {
+        if is_place(place, other) {
+            return true;
+        }
+    }
+    false
+}
+
+/// Whether changes left a row of the table that isn't present.
+pub fn has_absent(left: &[(Place, LeftRow)], table: u16) -> bool
+    ensures { result ≡ has_absent left.now table }
+{
+    for (place, row) in left {
+        if place.table == table && !row.present {
+            return true;
+        }
+    }
+    false
+}
+
+/// Whether the row there is present after the changes; where it was surely present before them, it isn't asked for.
+#[tactic(auto, using(crate::proofs::BrokenLaws::standing))]
+fn stands<R: Rows>(
+    left: &[(Place, LeftRow)],
+    place: &Place,
+    sure: bool,
+    rows: &mut R,
+) -> Result<bool, Halt>
+    ensures followed { IfOk result (λ stands. Follows (R.tables rows.old) (R.tables rows.new) (R.noted rows.old) (R.noted rows.new)
+        (λ t. (sure ≡ true → is_present t place.now.table place.now.key ≡ true) → is_present (over left.now t) place.now.table place.now.key ≡ stands)) }
+    ensures same_app { (schema : List Declaration) → R.is_of rows.old schema → R.is_of rows.new schema }
+    ensures same_tables { R.tables rows.new ≡ R.tables rows.old }
+    ensures same_knows { R.knows rows.new ≡ R.knows rows.old }
+    ensures same_rest { R.rest rows.new ≡ R.rest rows.old }
+    ensures missing { (a : AskValue) → result ≡ Err (halt.Missing a) → R.knows rows.old a ≡ false }
+{
+    match left_at(left, place) {
+        Some(row) => Ok(row.present),
+        None => {
+            if sure {
+                return Ok(true);
+            }
+            let seen = ask_row(rows, place.table, &place.key)?;
+            Ok(seen.present)
+        }
+    }
+}
+
+/// Whether the row, which stands at the place after the changes, breaks the rule.
+#[tactic(auto, using(crate::proofs::BrokenLaws::saying))]
+fn row_breaks<R: Rows>(
+    app: &App,
+    inv: &Inv,
+    place: &Place,
+    row: &LeftRow,
+    left: &[(Place, LeftRow)],
+    rows: &mut R,
+) -> Result<bool, Halt>
+    requires own { IsOwn (rule_of inv.now.body) }
+    requires declared { IsInvariant (schema_of app.now.tables.items) place.now.table (invariant_of inv.now) }
+    ensures followed { IfOk result (λ breaks. Follows (R.tables rows.old) (R.tables rows.new) (R.noted rows.old) (R.noted rows.new)
+        (RowSays (schema_of app.now.tables.items) left.now place.now (left_row row.now) (rule_of inv.now.body) breaks)) }
+    ensures same_app { (schema : List Declaration) → R.is_of rows.old schema → R.is_of rows.new schema }
+    ensures same_tables { R.tables rows.new ≡ R.tables rows.old }
+    ensures same_knows { R.knows rows.new ≡ R.knows rows.old }
+    ensures same_rest { R.rest rows.new ≡ R.rest rows.old }
+    ensures missing { (a : AskValue) → result ≡ Err (halt.Missing a) → R.knows rows.old a ≡ false }
+{
+    match &inv.body {
+        InvBody::Check(check) => {
+            let met = is_met(row, check)?;
+            Ok(!met)
+        }
+        InvBody::List { col, texts } => Ok(!is_listed(&value_of(row, col), texts.as_slice())),
+        InvBody::Unique { .. } => unreachable!(),
+        InvBody::Refers { col, table, .. } => {
+            if !binds(app, table.num, row.present) {
+                return Ok(false);
+            }
+            let parent = Place {
+                table: table.num,
+                key: key_by(&value_of(row, col))?,
+            };
+            let sure = !is_left(left, place);
+            let found = stands(left, &parent, sure, rows)?;
+            Ok(!found)
+        }
+    }
+}
+
+/// Whether the rule is broken at the place after the changes.
+#[tactic(auto, using(crate::proofs::BrokenLaws::looking))]
+pub fn is_broken<R: Rows>(
+    alloc: Global,
+    app: &App,
+    inv: &Inv,
+    place: &Place,
+    left: &[(Place, LeftRow)],
+    rows: &mut R,
+) -> Result<bool, Halt>
+    requires own { IsOwn (rule_of inv.now.body) }
+    requires declared { IsInvariant (schema_of app.now.tables.items) place.now.table (invariant_of inv.now) }
+    ensures followed { IfOk result (λ broken. Follows (R.tables rows.old) (R.tables rows.new) (R.noted rows.old) (R.noted rows.new)
+        (PlaceSays (schema_of app.now.tables.items) left.now place.now (rule_of inv.now.body) broken)) }
+    ensures same_app { (schema : List Declaration) → R.is_of rows.old schema → R.is_of rows.new schema }
+    ensures same_tables { R.tables rows.new ≡ R.tables rows.old }
+    ensures same_knows { R.knows rows.new ≡ R.knows rows.old }
+    ensures same_rest { R.rest rows.new ≡ R.rest rows.old }
+    ensures missing { (a : AskValue) → result ≡ Err (halt.Missing a) → R.knows rows.old a ≡ false }
+{
+    match look(alloc, left, rows, place)? {
+        None => Ok(false),
+        Some(row) => {
+            let broken = row_breaks(app, inv, place, &row, left, rows)?;
+            Ok(broken)
+        }
+    }
+}

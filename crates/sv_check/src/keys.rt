@@ -1,0 +1,123 @@
+//! The keys at which a rule may be broken after changes.
+
+ghost use Rattle.std.specs.Prelude.{◌≡◌, ◌<◌, ◌||◌, ◌++◌, ◌∷◌, [], Err, Some, false, List, IfOk, IfSome, OnOk};
+ghost use Rattle.sv_value.specs.declared.values.Key.{Key as KeyValue};
+ghost use Rattle.sv_app.specs.Schema.{Declaration};
+ghost use Rattle.sv_app.specs.Tables.{Tables};
+ghost use Rattle.sv_app.specs.Valid.{place_at};
+ghost use Rattle.sv_effect.specs.declared.reads.Ask.{Ask as AskValue};
+ghost use Rattle.sv_effect.specs.declared.reads.Halt.TheVariants as halt;
+ghost use Rattle.sv_effect.specs.Agrees.{IsNextKey};
+ghost use Rattle.sv_effect.specs.Follows.{Follows};
+ghost use Rattle.sv_check.specs.Left.{is_left};
+ghost use Rattle.sv_check.specs.Least.{lesser, has_key, HasPresent, AreCandidates};
+
+use crate::left::LeftRow;
+use std::alloc::Global;
+use sv_app::Place;
+use sv_effect::{Halt, Rows, ask_next};
+use sv_value::{Key, NoMemory, Val};
+
+/// The lesser of two keys, where there are two.
+pub fn lesser(one: Option<Key>, other: Option<Key>) -> Option<Key>
+    ensures { result ≡ lesser one other }
+{
+    match (one, other) {
+        (None, other) => other,
+        (Some(key), None) => Some(key),
+        (Some(key), Some(other)) => {
+            if other.cmp(&key).is_lt() {
+                Some(other)
+            } else {
+                Some(key)
+            }
+        }
+    }
+}
+
+/// The key after that one, or the first.
+fn next_key<R: Rows>(table: u16, after: &Option<Key>, rows: &mut R) -> Result<Option<Key>, Halt>
+    ensures followed { IfOk result (λ next. Follows (R.tables rows.old) (R.tables rows.new) (R.noted rows.old) (R.noted rows.new) (λ t. IsNextKey t table after.now next)) }
+    ensures falls { IfOk result (λ next. IfSome next (λ key. R.rest rows.old table (Some key) < R.rest rows.old table after.now)) }
+    ensures same_app { (schema : List Declaration) → R.is_of rows.old schema → R.is_of rows.new schema }
+    ensures same_tables { R.tables rows.new ≡ R.tables rows.old }
+    ensures same_knows { R.knows rows.new ≡ R.knows rows.old }
+    ensures same_rest { R.rest rows.new ≡ R.rest rows.old }
+    ensures missing { (a : AskValue) → result ≡ Err (halt.Missing a) → R.knows rows.old a ≡ false }
+{
+    match after {
+        Some(key) => ask_next(rows, table, Some(key)),
+        None => ask_next(rows, table, None),
+    }
+}
+
+fn add_key(key: &Key, keys: &mut Vec<Key>) -> Result<(), NoMemory>
+    ensures { OnOk result (keys.new.items ≡ keys.old.items ++ key.now ∷ []) }
+{
+    // The check wants to see the type that is inside a key.
+    let _val: Option<Val> = None;
+    keys.push(*key)?;
+    Ok(())
+}
+
+/// The keys of the table's present rows before the changes.
+#[tactic(auto, using(crate::proofs::WalkLaws::walking))]
+fn present_keys<R: Rows>(alloc: Global, table: u16, rows: &mut R) -> Result<Vec<Key>, Halt>
+    ensures followed { IfOk result (λ keys. Follows (R.tables rows.old) (R.tables rows.new) (R.noted rows.old) (R.noted rows.new) (λ t. HasPresent t table keys.items)) }
+    ensures same_app { (schema : List Declaration) → R.is_of rows.old schema → R.is_of rows.new schema }
+    ensures same_tables { R.tables rows.new ≡ R.tables rows.old }
+    ensures same_knows { R.knows rows.new ≡ R.knows rows.old }
+    ensures same_rest { R.rest rows.new ≡ R.rest rows.old }
+    ensures missing { (a : AskValue) → result ≡ Err (halt.Missing a) → R.knows rows.old a ≡ false }
+{
+    let mut keys = Vec::new(alloc);
+    let mut after: Option<Key> = None;
+    loop {
+        match next_key(table, &after, rows)? {
+            Some(key) => {
+                add_key(&key, &mut keys)?;
+                after = Some(key);
+            }
+            None => return Ok(keys),
+        }
+    }
+}
+
+/// Adds the keys of the table's rows that changes left.
+fn add_left(left: &[(Place, LeftRow)], table: u16, keys: &mut Vec<Key>) -> Result<(), NoMemory>
+    ensures { OnOk result ((key : KeyValue) → has_key key keys.new.items ≡ (has_key key keys.old.items || is_left (place_at table key) left.now)) }
+{
+    for (place, _) in left {
+        if place.table == table {
+            keys.push(place.key)?;
+        }
+    }
+    Ok(())
+}
+
+/// The keys of the table's rows that changes left, and where it is to be walked, of its rows that were present.
+#[tactic(auto, using(crate::proofs::WalkLaws::candidates))]
+pub fn candidates<R: Rows>(
+    alloc: Global,
+    left: &[(Place, LeftRow)],
+    table: u16,
+    walk: bool,
+    rows: &mut R,
+) -> Result<Vec<Key>, Halt>
+    ensures followed { IfOk result (λ keys. Follows (R.tables rows.old) (R.tables rows.new) (R.noted rows.old) (R.noted rows.new) (AreCandidates walk left.now table keys.items)) }
+    ensures same_app { (schema : List Declaration) → R.is_of rows.old schema → R.is_of rows.new schema }
+    ensures same_tables { R.tables rows.new ≡ R.tables rows.old }
+    ensures same_knows { R.knows rows.new ≡ R.knows rows.old }
+    ensures same_rest { R.rest rows.new ≡ R.rest rows.old }
+    ensures missing { (a : AskValue) → result ≡ Err (halt.Missing a) → R.knows rows.old a ≡ false }
+{
+    if walk {
+        let mut keys = present_keys(alloc, table, rows)?;
+        add_left(left, table, &mut keys)?;
+        Ok(keys)
+    } else {
+        let mut keys = Vec::new(alloc);
+        add_left(left, table, &mut keys)?;
+        Ok(keys)
+    }
+}

@@ -1,0 +1,98 @@
+//! The least key at which a rule is broken after changes.
+
+ghost use Rattle.std.specs.Prelude.{◌≡◌, false, List, Err, IfOk, if◌then◌else◌};
+ghost use Rattle.sv_app.specs.Schema.{Declaration, schema_of, rule_of, invariant_of};
+ghost use Rattle.sv_app.specs.Valid.{IsInvariant};
+ghost use Rattle.sv_effect.specs.declared.reads.Ask.{Ask as AskValue};
+ghost use Rattle.sv_effect.specs.declared.reads.Halt.TheVariants as halt;
+ghost use Rattle.sv_effect.specs.Follows.{Follows};
+ghost use Rattle.sv_check.specs.Least.{lesser, IsOwn, LeastAmong, LeastBroken, walks};
+
+use crate::broken::{has_absent, is_broken};
+use crate::clashes::{least_clash, present_values};
+use crate::keys::{candidates, lesser};
+use crate::left::LeftRow;
+use std::alloc::Global;
+use sv_app::{App, Inv, InvBody, Place};
+use sv_effect::{Halt, Rows};
+use sv_value::Key;
+
+/// The lesser of both, where the rule is broken at the key.
+fn with_key(found: Option<Key>, key: &Key, broken: bool) -> Option<Key>
+    ensures { result ≡ (if broken then lesser found (Some key.now) else found) }
+{
+    if broken {
+        lesser(found, Some(*key))
+    } else {
+        found
+    }
+}
+
+/// The least of the keys at which the rule is broken.
+#[tactic(auto, using(crate::proofs::LeastBrokenLaws::looking))]
+fn least_among<R: Rows>(
+    alloc: Global,
+    app: &App,
+    table: u16,
+    inv: &Inv,
+    keys: &[Key],
+    left: &[(Place, LeftRow)],
+    rows: &mut R,
+) -> Result<Option<Key>, Halt>
+    requires own { IsOwn (rule_of inv.now.body) }
+    requires declared { IsInvariant (schema_of app.now.tables.items) table (invariant_of inv.now) }
+    ensures followed { IfOk result (λ found. Follows (R.tables rows.old) (R.tables rows.new) (R.noted rows.old) (R.noted rows.new)
+        (LeastAmong (schema_of app.now.tables.items) left.now table (rule_of inv.now.body) keys.now found)) }
+    ensures same_app { (schema : List Declaration) → R.is_of rows.old schema → R.is_of rows.new schema }
+    ensures same_tables { R.tables rows.new ≡ R.tables rows.old }
+    ensures same_knows { R.knows rows.new ≡ R.knows rows.old }
+    ensures same_rest { R.rest rows.new ≡ R.rest rows.old }
+    ensures missing { (a : AskValue) → result ≡ Err (halt.Missing a) → R.knows rows.old a ≡ false }
+{
+    let mut found = None;
+    for key in keys {
+        let broken = is_broken(alloc, app, inv, &Place { table, key: *key }, left, rows)?;
+        found = with_key(found, key, broken);
+    }
+    Ok(found)
+}
+
+/// Whether rows that no change left may break the rule.
+fn walks(inv: &Inv, left: &[(Place, LeftRow)]) -> bool
+    ensures { result ≡ walks (rule_of inv.now.body) left.now }
+{
+    match &inv.body {
+        InvBody::Check(_) | InvBody::List { .. } => false,
+        InvBody::Unique { .. } => true,
+        InvBody::Refers { table, .. } => has_absent(left, table.num),
+    }
+}
+
+/// The least key at which the invariant is broken after the changes.
+#[tactic(auto, using(crate::proofs::LeastBrokenLaws::breaking))]
+pub fn least_broken<R: Rows>(
+    alloc: Global,
+    app: &App,
+    table: u16,
+    inv: &Inv,
+    left: &[(Place, LeftRow)],
+    rows: &mut R,
+) -> Result<Option<Key>, Halt>
+    requires declared { IsInvariant (schema_of app.now.tables.items) table (invariant_of inv.now) }
+    ensures followed { IfOk result (λ found. Follows (R.tables rows.old) (R.tables rows.new) (R.noted rows.old) (R.noted rows.new)
+        (LeastBroken (schema_of app.now.tables.items) left.now table (rule_of inv.now.body) found)) }
+    ensures same_app { (schema : List Declaration) → R.is_of rows.old schema → R.is_of rows.new schema }
+    ensures same_tables { R.tables rows.new ≡ R.tables rows.old }
+    ensures same_knows { R.knows rows.new ≡ R.knows rows.old }
+    ensures same_rest { R.rest rows.new ≡ R.rest rows.old }
+    ensures missing { (a : AskValue) → result ≡ Err (halt.Missing a) → R.knows rows.old a ≡ false }
+{
+    let keys = candidates(alloc, left, table, walks(inv, left), rows)?;
+    if let InvBody::Unique { col } = &inv.body {
+        let pairs = present_values(alloc, left, table, col, &keys, rows)?;
+        Ok(least_clash(&pairs))
+    } else {
+        let found = least_among(alloc, app, table, inv, &keys, left, rows)?;
+        Ok(found)
+    }
+}
