@@ -5,3 +5,5 @@ pub mod LoopLaws
 pub mod MarkLaws
 pub mod RowLaws
 pub mod InitLaws
+pub mod CommaLaws
+pub mod TurnLaws
