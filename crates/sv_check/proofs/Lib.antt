@@ -1,0 +1,13 @@
+pub mod AnswerLaws
+pub mod ChangeLaws
+pub mod FailLaws
+pub mod FindLaws
+pub mod InitialLaws
+pub mod LeftLaws
+pub mod ListLaws
+pub mod RuleLaws
+pub mod SetLaws
+pub mod SlotLaws
+pub mod TableLaws
+pub mod ValueLaws
+pub mod WriteLaws

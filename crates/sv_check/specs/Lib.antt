@@ -1,2 +1,5 @@
 pub mod Initial
+pub mod Left
+pub mod Rules
+pub mod Tests
 pub mod Verdicts

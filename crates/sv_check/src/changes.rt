@@ -1,0 +1,131 @@
+//! The rows that changes leave, each write winning.
+
+ghost use Rattle.std.specs.Prelude.{◌≡◌, Err, false, List, IfOk, OnOk, map, slice_get, unwrap_or};
+ghost use Rattle.sv_app.specs.Schema.{Declaration, schema_of};
+ghost use Rattle.sv_app.specs.Tables.{Tables};
+ghost use Rattle.sv_effect.specs.declared.reads.Ask.{Ask as AskValue};
+ghost use Rattle.sv_effect.specs.declared.reads.Halt.TheVariants as halt;
+ghost use Rattle.sv_effect.specs.Applied.{place_of, zeros_in};
+ghost use Rattle.sv_effect.specs.BareTables.{got_of};
+ghost use Rattle.sv_effect.specs.Follows.{Follows};
+ghost use Rattle.sv_effect.specs.RowChange.{turn_of};
+ghost use Rattle.sv_effect.specs.RunChanges.{effect_of};
+ghost use Rattle.sv_effect.specs.Safe.{row_after, with_effect, with_effects};
+ghost use Rattle.sv_check.specs.Left.{over, left_row, left_rows, start_of};
+
+use crate::left::{LeftRow, look};
+use crate::writes::{make_writes, zeros};
+use std::alloc::Global;
+use sv_app::{Act, App, Got, Place};
+use sv_effect::{Halt, RowEffect, Rows};
+use sv_value::{List, NoMemory};
+
+/// Whether a row is present after the act.
+fn turned(act: Act, present: bool) -> bool
+    ensures { result ≡ unwrap_or (turn_of act) present }
+{
+    match act {
+        Act::Insert => true,
+        Act::Update => present,
+        Act::Remove => false,
+    }
+}
+
+/// The values that a change of a row that isn't kept starts from.
+#[tactic(auto, using(crate::proofs::TableLaws::declared))]
+fn first_values(alloc: Global, app: &App, effect: &RowEffect) -> Result<List<Got>, NoMemory>
+    ensures { IfOk result (λ values. values ≡ map got_of (zeros_in (schema_of app.now.tables.items) (place_of effect.now))) }
+{
+    let table = effect.table as usize;
+    if table < app.tables.len() {
+        zeros(alloc, &app.tables[table], &effect.key)
+    } else {
+        Ok(List::new(alloc))
+    }
+}
+
+/// The row that the change starts from.
+fn row_before(
+    alloc: Global,
+    app: &App,
+    effect: &RowEffect,
+    kept: Option<LeftRow>,
+) -> Result<LeftRow, NoMemory>
+    ensures { IfOk result (λ row. left_row row ≡ start_of (schema_of app.now.tables.items) (effect_of effect.now) (left_rows kept)) }
+{
+    match kept {
+        Some(row) => Ok(row),
+        None => Ok(LeftRow {
+            values: first_values(alloc, app, effect)?,
+            present: false,
+        }),
+    }
+}
+
+/// The row after the change.
+fn row_after(
+    alloc: Global,
+    app: &App,
+    effect: &RowEffect,
+    kept: Option<LeftRow>,
+) -> Result<LeftRow, NoMemory>
+    ensures { IfOk result (λ row. left_row row ≡ row_after (schema_of app.now.tables.items) (effect_of effect.now) (left_rows kept)) }
+{
+    let LeftRow { values, present } = row_before(alloc, app, effect, kept)?;
+    let mut values = values.into_vec();
+    make_writes(&mut values, effect.writes.as_slice())?;
+    Ok(LeftRow {
+        values: List::from_vec(values),
+        present: turned(effect.act, present),
+    })
+}
+
+/// Makes a change of the rows that earlier ones left.
+#[tactic(auto, using(crate::proofs::ChangeLaws::changing))]
+fn change<R: Rows>(
+    alloc: Global,
+    app: &App,
+    effect: &RowEffect,
+    left: &mut Vec<(Place, LeftRow)>,
+    rows: &mut R,
+) -> Result<(), Halt>
+    ensures followed { OnOk result (Follows (R.tables rows.old) (R.tables rows.new) (R.noted rows.old) (R.noted rows.new)
+        (λ t. over left.new.items t ≡ with_effect (schema_of app.now.tables.items) (effect_of effect.now) (over left.old.items t))) }
+    ensures same_app { (schema : List Declaration) → R.is_of rows.old schema → R.is_of rows.new schema }
+    ensures same_tables { R.tables rows.new ≡ R.tables rows.old }
+    ensures same_knows { R.knows rows.new ≡ R.knows rows.old }
+    ensures same_rest { R.rest rows.new ≡ R.rest rows.old }
+    ensures missing { (a : AskValue) → result ≡ Err (halt.Missing a) → R.knows rows.old a ≡ false }
+{
+    let place = Place {
+        table: effect.table,
+        key: effect.key,
+    };
+    let kept = look(alloc, left, rows, &place)?;
+    let row = row_after(alloc, app, effect, kept)?;
+    left.insert(0, (place, row))?;
+    Ok(())
+}
+
+/// The rows that the changes leave, the latest first.
+#[tactic(auto, using(crate::proofs::ChangeLaws::changing))]
+pub fn rows_after<R: Rows>(
+    alloc: Global,
+    app: &App,
+    effects: &[RowEffect],
+    rows: &mut R,
+) -> Result<Vec<(Place, LeftRow)>, Halt>
+    ensures followed { IfOk result (λ left. Follows (R.tables rows.old) (R.tables rows.new) (R.noted rows.old) (R.noted rows.new)
+        (λ t. over left.items t ≡ with_effects (schema_of app.now.tables.items) (map effect_of effects.now) t)) }
+    ensures same_app { (schema : List Declaration) → R.is_of rows.old schema → R.is_of rows.new schema }
+    ensures same_tables { R.tables rows.new ≡ R.tables rows.old }
+    ensures same_knows { R.knows rows.new ≡ R.knows rows.old }
+    ensures same_rest { R.rest rows.new ≡ R.rest rows.old }
+    ensures missing { (a : AskValue) → result ≡ Err (halt.Missing a) → R.knows rows.old a ≡ false }
+{
+    let mut left = Vec::new(alloc);
+    for effect in effects {
+        change(alloc, app, effect, &mut left, rows)?;
+    }
+    Ok(left)
+}
