@@ -7,3 +7,5 @@ pub mod RowLaws
 pub mod InitLaws
 pub mod CommaLaws
 pub mod TurnLaws
+pub mod FitLaws
+pub mod KeptLaws
