@@ -15,7 +15,7 @@ use Rattle.sv_schema_reader.proofs.TextLaws.{snoc, text_stepping, step_is as tex
 use Rattle.sv_schema_reader.proofs.TurnLaws.{Turning, shorter, turn_read, turn_err, end_read}
 
 -- what one turn more does, and the end
-record Loops {S : Type 0} (step : S → List Token → Read S) : Type 0 where
+pub record Loops {S : Type 0} (step : S → List Token → Read S) : Type 0 where
   pub more : (s : S) (tokens : List Token) (spot : Spot) (r : List Token) (m : S) (rest : List Token) → is_next (Mark Comma) tokens ≡ true → kind_at (Mark Comma) tokens ≡ Ok (spot, r) → step s r ≡ Ok (m, rest)
       → others_at step s tokens ≡ others_at step m rest
   pub less : (s : S) (tokens : List Token) (spot : Spot) (r : List Token) (m : S) (rest : List Token) → is_next (Mark Comma) tokens ≡ true → kind_at (Mark Comma) tokens ≡ Ok (spot, r) → step s r ≡ Ok (m, rest)
@@ -25,7 +25,7 @@ record Loops {S : Type 0} (step : S → List Token → Read S) : Type 0 where
   pub close : (s : S) (tokens : List Token) (spot : Spot) (r : List Token) → is_next (Mark Comma) tokens ≡ false → kind_at (Mark RightParen) tokens ≡ Ok (spot, r) → others_at step s tokens ≡ Ok (s, r)
   pub close_err : (s : S) (tokens : List Token) (fault : Fault) → is_next (Mark Comma) tokens ≡ false → kind_at (Mark RightParen) tokens ≡ Err fault → others_at step s tokens ≡ Err fault
 
-loops_of : {S : Type 0} {before : List Token → Bool} {step : S → List Token → Read S} {T TS : S → S → List Token → Type 0} {E : List Token → Type 0}
+pub loops_of : {S : Type 0} {before : List Token → Bool} {step : S → List Token → Read S} {T TS : S → S → List Token → Type 0} {E : List Token → Type 0}
     → Turning before anything (is_next (Mark Comma)) (comma_turn step) closed_at T TS E → Loops step
 loops_of {S} {before} {step} law = record {
   more = λ s tokens spot r m rest t k e. turn_read law s tokens m rest t (then_ok (λ _ x. step s x) k ∙ e);

@@ -154,7 +154,7 @@ module _ (schema : List Declaration) where
           (judged_marked row_law (token ∷ others) (marked before (token ∷ others)) (at_front (row_code schema (table_meant schema (token ∷ others)) (map (init_row schema) before) (row_at (token ∷ others))) (token ∷ others))
           (row_marks before token others n.ident n.is))
 
-  row_shrinks : (rows : List InitRow) (tokens : List Token) (r : Row) (rest : List Token) → is_name tokens ≡ true → row_from schema rows tokens ≡ Ok (r, rest) → length rest < length tokens
+  pub row_shrinks : (rows : List InitRow) (tokens : List Token) (r : Row) (rest : List Token) → is_name tokens ≡ true → row_from schema rows tokens ≡ Ok (r, rest) → length rest < length tokens
   unfolding row_from
   row_shrinks rows tokens r rest t e = by_mark (at_front (row_code schema (table_meant schema tokens) rows (row_at tokens)) tokens) e
     where

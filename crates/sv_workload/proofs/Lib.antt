@@ -5,3 +5,7 @@ pub mod LoopLaws
 pub mod MarkLaws
 pub mod RowLaws
 pub mod InitLaws
+pub mod CommaLaws
+pub mod TurnLaws
+pub mod FitLaws
+pub mod KeptLaws

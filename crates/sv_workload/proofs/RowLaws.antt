@@ -205,7 +205,7 @@ module _ (schema : List Declaration) where
         let same = same_read (sym (row_law.reads s front behind is refl) ∙ ap row_at (sym whole) ∙ e) in same.item
 
     -- a whole row of a known table
-    whole_row : (t : Declaration) (r : Row) (rest : List Token) → table_of schema ident ≡ Some t → row_at tokens ≡ Ok (r, rest) → Tells before tokens (or_else (row_fault schema t rows r) (crowded rows))
+    whole_row : (t : Declaration) (r : Row) (rest : List Token) → table_of schema ident ≡ Some t → row_at tokens ≡ Ok (r, rest) → Tells before tokens (or_else (row_fault t rows (init_row schema r)) (crowded rows))
     whole_row t r rest e read = by_long (length r.values == length t.columns) refl
       where
         took : Took row row_at tokens r rest

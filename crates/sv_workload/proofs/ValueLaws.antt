@@ -130,11 +130,11 @@ text_comma t l is token others w e =
     let bad : Text t ≡ Mark Comma = sym is.holds ∙ ap (λ (t : Token). t.kind) (sym first) ∙ e in
     absurd cc
 
-value_some : (v : Val) (l : List Token) → value v l → l ≡ [] → ⊥
+pub value_some : (v : Val) (l : List Token) → value v l → l ≡ [] → ⊥
 value_some (vals.Int z) l is e = integer_some z l is e
 value_some (vals.Text t) l is e = text_some t l is e
 
-value_comma : (v : Val) (token : Token) (l : List Token) → value v (token ∷ l) → token.kind ≡ Mark Comma → ⊥
+pub value_comma : (v : Val) (token : Token) (l : List Token) → value v (token ∷ l) → token.kind ≡ Mark Comma → ⊥
 value_comma (vals.Int z) token l is e = integer_comma z (token ∷ l) is token l refl e
 value_comma (vals.Text t) token l is e = text_comma t (token ∷ l) is token l refl e
 

@@ -6,4 +6,5 @@ pub mod InitRefused
 pub mod LastRefused
 pub mod Reading
 pub mod Rows
+pub mod Stops
 pub mod Written

@@ -76,11 +76,11 @@ abbrev pub repeated : List InitRow → InitRow → Bool
 repeated rows row = list_any (λ other. is_place (init_place other) (init_place row)) rows
 
 -- what is wrong with a row of the table, behind these rows
-abbrev pub row_fault : List Declaration → Declaration → List InitRow → Row → Option Code
-row_fault schema table rows r =
-    if not (length r.values == length table.columns) then Some Typing
-    else if repeated rows (init_row schema r) then Some Twice
-    else if values_fit table.columns r.values then None
+abbrev pub row_fault : Declaration → List InitRow → InitRow → Option Code
+row_fault table rows row =
+    if not (length row.values == length table.columns) then Some Typing
+    else if repeated rows row then Some Twice
+    else if values_fit table.columns row.values then None
     else Some Typing
 
 -- no row may stand behind so many
@@ -90,7 +90,7 @@ crowded rows = given (nat_le 4096 (length rows)) Many
 -- what is wrong where a row begins, by its table, if there is one, and by what is read of it
 abbrev pub row_code : List Declaration → Option Declaration → List InitRow → Read Row → Option Code
 row_code schema None rows read = Some Unknown
-row_code schema (Some table) rows (Ok read) = or_else (row_fault schema table rows read.0) (crowded rows)
+row_code schema (Some table) rows (Ok read) = or_else (row_fault table rows (init_row schema read.0)) (crowded rows)
 row_code schema (Some table) rows (Err fault) = crowded rows
 
 abbrev pub meant : List Declaration → Option Ident → Option Declaration
@@ -101,6 +101,10 @@ meant schema (Some ident) = table_of schema ident
 abbrev pub table_meant : List Declaration → List Token → Option Declaration
 table_meant schema [] = None
 table_meant schema (token ∷ others) = meant schema (name_of token)
+
+-- what is read, as something else
+abbrev pub as_item : {A B : Type 0} → (A → B) → Read A → Read B
+as_item view read = read >>= λ a rest. Ok (view a, rest)
 
 -- the row that begins here, behind these rows
 unfoldable pub row_from : List Declaration → List InitRow → List Token → Read Row

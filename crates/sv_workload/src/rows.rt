@@ -1,11 +1,19 @@
-ghost use Rattle.std.specs.Prelude.{◌≡◌, ◌<◌, length, slice_get, IfSome, MatchOption};
+ghost use Rattle.std.specs.Prelude.{◌≡◌, ◌<◌, ◌≤◌, length, slice_get, IfSome, MatchOption};
 ghost use Rattle.std.specs.Prelude.{None as none};
 ghost use Rattle.sv_app.specs.Lookups.{is_named, place_of, table_of, table_names};
 ghost use Rattle.sv_app.specs.Schema.{declaration_of, schema_of};
-ghost use Rattle.sv_workload.specs.Reading.{has_type, values_fit, repeated};
+ghost use Rattle.sv_app.specs.Slots.{item};
+ghost use Rattle.sv_effect.specs.RunChanges.{key_in};
+ghost use Rattle.sv_effect.specs.RunValues.{nothing};
+ghost use Rattle.sv_workload.specs.Reading.{has_type, values_fit, repeated, row_fault, crowded};
+ghost use Rattle.sv_workload.specs.Rows.{init_row};
 
-use sv_app::{Column, Ident, InitRow, Place, Table, Ty};
-use sv_value::Val;
+use crate::written::Row;
+use sv_app::{Code, Column, Ident, InitRow, Place, Table, Ty};
+use sv_value::{Key, Val};
+
+/// The most initial rows of a document.
+const MOST_ROWS: usize = 4_096;
 
 fn is_named(name: &Ident, other: &Ident) -> bool
     ensures { result ≡ is_named name.now other.now }
@@ -71,4 +79,83 @@ fn repeated(rows: &[InitRow], row: &InitRow) -> bool
 {
     rows.iter()
         .any(|other| place_of(other).cmp(&place_of(row)).is_eq())
+}
+
+fn value_of(values: &[Val], column: &Ident) -> Val
+    ensures { result ≡ item nothing values.now column.now.num }
+{
+    match values.get(column.num as usize) {
+        Some(value) => *value,
+        None => Val::Int(0),
+    }
+}
+
+/// The key of a row whose table isn't known.
+fn no_key() -> Key
+    ensures { result ≡ record { first = nothing; second = none } }
+{
+    Key {
+        first: Val::Int(0),
+        second: None,
+    }
+}
+
+/// The key of a row with these values.
+fn key_of(table: &Table, values: &[Val]) -> Key
+    ensures { result ≡ key_in (declaration_of table.now).key values.now }
+{
+    match table.key.as_slice() {
+        [] => no_key(),
+        [first] => Key {
+            first: value_of(values, first),
+            second: None,
+        },
+        [first, second, ..] => Key {
+            first: value_of(values, first),
+            second: Some(value_of(values, second)),
+        },
+    }
+}
+
+/// The initial row that a written row stands for.
+pub fn init_row(tables: &[Table], row: Row) -> InitRow
+    requires few { length tables.now ≤ 16 }
+    ensures { result ≡ init_row (schema_of tables.now) row }
+{
+    let (table, key) = match table_place(tables, &row.table) {
+        Some(place) => (place, key_of(&tables[place], row.values.items())),
+        None => (0, no_key()),
+    };
+    InitRow {
+        table: table as u16,
+        key,
+        spot: row.table.spot,
+        values: row.values,
+    }
+}
+
+/// What is wrong with a row of the table, behind these rows.
+pub fn row_fault(table: &Table, rows: &[InitRow], row: &InitRow) -> Option<Code>
+    ensures { result ≡ row_fault (declaration_of table.now) rows.now row.now }
+{
+    if row.values.len() != table.columns.len() {
+        return Some(Code::Typing);
+    }
+    if repeated(rows, row) {
+        return Some(Code::Twice);
+    }
+    if values_fit(&table.columns, row.values.items()) {
+        return None;
+    }
+    Some(Code::Typing)
+}
+
+/// Whether no row may stand behind these.
+pub fn crowded(rows: &[InitRow]) -> Option<Code>
+    ensures { result ≡ crowded rows.now }
+{
+    if rows.len() >= MOST_ROWS {
+        return Some(Code::Many);
+    }
+    None
 }

@@ -63,3 +63,30 @@ fn add_value(reader: &mut Reader<'_>, values: &mut List<Val>) -> Result<(), Halt
     values.push(next)?;
     Ok(())
 }
+
+/// Reads the values of a row, up to its parenthesis.
+#[tactic(auto, unfolding(sv_schema_reader::specs::Reading::list_at), using(crate::proofs::CommaLaws::values))]
+fn values(alloc: Global, reader: &mut Reader<'_>) -> Result<List<Val>, Halt>
+    ensures { Reads (λ values. values) result reader.new.rest.now (list_at value_step [] reader.old.rest.now) }
+{
+    let mut values = List::new(alloc);
+    add_value(reader, &mut values)?;
+    while reader.is_mark(Mark::Comma) {
+        reader.mark(Mark::Comma)?;
+        add_value(reader, &mut values)?;
+    }
+    reader.mark(Mark::RightParen)?;
+    Ok(values)
+}
+
+/// Reads a row.
+#[tactic(auto, unfolding(crate::specs::Reading::row_at))]
+pub fn row(alloc: Global, reader: &mut Reader<'_>) -> Result<Row, Halt>
+    ensures { Reads (λ row. row) result reader.new.rest.now (row_at reader.old.rest.now) }
+{
+    let table = reader.name()?;
+    reader.mark(Mark::LeftParen)?;
+    let values = values(alloc, reader)?;
+    reader.mark(Mark::Semi)?;
+    Ok(Row { table, values })
+}
