@@ -1,4 +1,5 @@
 pub mod ChainLaws
+pub mod CommandLaws
 pub mod ExprLaws
 pub mod FactorLaws
 pub mod Laws
