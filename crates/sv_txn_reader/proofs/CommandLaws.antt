@@ -14,17 +14,17 @@ use Rattle.sv_schema_reader.proofs.KindLaws.{kind_is}
 use Rattle.sv_txn_reader.specs.declared.counts.Counts.{Counts}
 use Rattle.sv_txn_reader.specs.declared.heads.Head.{Head}
 use Rattle.sv_txn_reader.specs.declared.heads.Head.TheVariants as heads
-use Rattle.sv_txn_reader.specs.Grammar.{Pair, ◌·◌, nothing, kind, mark, word, name, limit, Within, expr, cond as condition, where_part, command, statements, braced, otherwise}
+use Rattle.sv_txn_reader.specs.Grammar.{Pair, ◌·◌, nothing, kind, mark, word, name, limit, setting, Within, expr, cond as condition, where_part, command, statements, braced, otherwise}
 use Rattle.sv_txn_reader.specs.Reading.{Counted, Several, Blocks, is_sign, is_loop, head_at, may_begin, with_head, with_counts, let_at, assign_at, get_at, if_at, else_at, where_at, for_at, each_at, loop_at, insert_at, update_at, remove_at, abort_at, reply_at, cond_at}
 use Rattle.sv_txn_reader.specs.Standing.{Standing, counts, plus, command_counts, block_counts, deeper}
 use Rattle.sv_txn_reader.proofs.ExprLaws.{cond_law}
-use Rattle.sv_txn_reader.proofs.HeadLaws.{head_of, head_token, head_alike, head_command, command_begins, kind_read, name_read}
+use Rattle.sv_txn_reader.proofs.HeadLaws.{head_of, HeadWord, head_token, head_alike, head_command, command_begins, kind_read, name_read}
 use Rattle.sv_txn_reader.proofs.Laws.{Mode, Alike, Opens, Passes, Took, Stuck, Misplaced, Exceeds, Reads, Law, reads_same, map_law, read_law, clash_law, anything, then_ok, then_err, took_map, stuck_map, opens_map}
 use Rattle.sv_txn_reader.proofs.LimitLaws.{places, Limited, limited_law, Goes, Short, Full}
 use Rattle.sv_txn_reader.proofs.ListLaws.{or_false}
 use Rattle.sv_txn_reader.proofs.LiteralLaws.{disjoins}
 use Rattle.sv_txn_reader.proofs.PieceLaws.{next_alike, kind_next, kind_test, name_law, name_next, Made, take, take_last, skip, skip_last, ended, Either, Left, Right, either_law}
-use Rattle.sv_txn_reader.proofs.SimpleLaws.{let_of, let_law, assign_law, get_law, insert_law, update_law, remove_law, abort_law, reply_law}
+use Rattle.sv_txn_reader.proofs.SimpleLaws.{AssignWords, GetWords, InsertWords, UpdateWords, RemoveWords, AbortWords, ReplyWords, let_of, let_law, assign_law, get_law, insert_law, update_law, remove_law, abort_law, reply_law}
 
 abbrev pub standing : ℕ → Bool → Counts → Standing
 standing d l n = record { depth = d; looped = l; before = n }
@@ -393,3 +393,194 @@ module _ (depth : ℕ) (looped : Bool) (before : Counts) (blocks : Blocks) (inne
         made = λ j. (ForEach a t (sym same j), k);
       })
   each_out i _ l r cmd e = absurd cc
+
+  -- statements by what they begin with
+
+  abbrev pub HeadCmd : Head → ℕ → Counted → List Token → List Token → Type 0
+  HeadCmd h i c l r = Cmd depth looped before i c l r × (head_of c.0 ≡ h)
+
+  simple : (h : Head) {G : ℕ → Command → List Token → List Token → Type 0} {read : List Token → Read Command} → Law places is_else G read
+      → ((i : ℕ) (c : Command) (l r : List Token) → G i c l r → command i at c l r × (head_of c ≡ h) × (command_counts c ≡ one))
+      → ((i : ℕ) (c : Command) (l r : List Token) → command i at c l r → head_of c ≡ h → G i c l r × (command_counts c ≡ one)) → Law places is_else (HeadCmd h) (λ l. with_counts n (read l))
+  simple h {G} {read} law into out = map_law (take_last (λ (c : Command). (c, n)) law)
+      (λ i c l r x. let y = into i x.«from» l r x.is in subst (λ z. HeadCmd h i z l r) (sym x.made) (record { is = y.0; after = ap (λ k. plus before k) (sym y.2) }, y.1))
+      (λ i c l r x. let y = out i c.0 l r x.0.is x.1 in record { «from» = c.0; is = y.0; made = λ j. (c.0, (x.0.after ∙ ap (λ k. plus before k) y.1) j) })
+
+  let_head : Law places is_else (HeadCmd heads.Let) (let_at n)
+  let_head = map_law (let_law is_else n) into out
+    where
+      into : (i : ℕ) (c : Counted) (l r : List Token) → Made (let_of n) (λ i x. word (codes "let") · limit i 32 (suc n.variables) · setting i x.0 · mark marks.Semi) i c l r → HeadCmd heads.Let i c l r
+      into i c l r x = subst (λ z. HeadCmd heads.Let i z l r) (sym x.made) (record { is = x.is; after = plus_assoc before one (counts 0 0 1) }, refl)
+
+      out : (i : ℕ) (c : Counted) (l r : List Token) → HeadCmd heads.Let i c l r → Made (let_of n) (λ i x. word (codes "let") · limit i 32 (suc n.variables) · setting i x.0 · mark marks.Semi) i c l r
+      out i (Declare x e, k) l r c = record { «from» = ((x, e), tt); is = c.0.is; made = λ j. (Declare x e, (c.0.after ∙ sym (plus_assoc before one (counts 0 0 1))) j) }
+      out i _ l r c = absurd (let e = c.1 in cc)
+
+  assign_head : Law places is_else (HeadCmd heads.Assign) (λ l. with_counts n (assign_at l))
+  assign_head = simple heads.Assign (assign_law is_else) (λ i c l r x. subst (λ z. command i at z l r × (head_of z ≡ heads.Assign) × (command_counts z ≡ one)) (sym x.made) (x.is, refl, refl)) out
+    where
+      out : (i : ℕ) (c : Command) (l r : List Token) → command i at c l r → head_of c ≡ heads.Assign → AssignWords i c l r × (command_counts c ≡ one)
+      out i (Assign x e) l r is h = (record { «from» = ((x, e), tt); is = is; made = refl }, refl)
+      out i _ l r is h = absurd cc
+
+  get_head : Law places is_else (HeadCmd heads.Get) (λ l. with_counts n (get_at l))
+  get_head = simple heads.Get (get_law is_else) (λ i c l r x. subst (λ z. command i at z l r × (head_of z ≡ heads.Get) × (command_counts z ≡ one)) (sym x.made) (x.is, refl, refl)) out
+    where
+      out : (i : ℕ) (c : Command) (l r : List Token) → command i at c l r → head_of c ≡ heads.Get → GetWords i c l r × (command_counts c ≡ one)
+      out i (Fetch a t k) l r is h = (record { «from» = (a, (t, (k, tt))); is = is; made = refl }, refl)
+      out i _ l r is h = absurd cc
+
+  insert_head : Law places is_else (HeadCmd heads.Insert) (λ l. with_counts n (insert_at l))
+  insert_head = simple heads.Insert (insert_law is_else) (λ i c l r x. subst (λ z. command i at z l r × (head_of z ≡ heads.Insert) × (command_counts z ≡ one)) (sym x.made) (x.is, refl, refl)) out
+    where
+      out : (i : ℕ) (c : Command) (l r : List Token) → command i at c l r → head_of c ≡ heads.Insert → InsertWords i c l r × (command_counts c ≡ one)
+      out i (Insert t vs) l r is h = (record { «from» = (t, (vs, tt)); is = is; made = refl }, refl)
+      out i _ l r is h = absurd cc
+
+  update_head : Law places is_else (HeadCmd heads.Update) (λ l. with_counts n (update_at l))
+  update_head = simple heads.Update (update_law is_else) (λ i c l r x. subst (λ z. command i at z l r × (head_of z ≡ heads.Update) × (command_counts z ≡ one)) (sym x.made) (x.is, refl, refl)) out
+    where
+      out : (i : ℕ) (c : Command) (l r : List Token) → command i at c l r → head_of c ≡ heads.Update → UpdateWords i c l r × (command_counts c ≡ one)
+      out i (Update t k s) l r is h = (record { «from» = (t, (k, (s, tt))); is = is; made = refl }, refl)
+      out i _ l r is h = absurd cc
+
+  remove_head : Law places is_else (HeadCmd heads.Remove) (λ l. with_counts n (remove_at l))
+  remove_head = simple heads.Remove (remove_law is_else) (λ i c l r x. subst (λ z. command i at z l r × (head_of z ≡ heads.Remove) × (command_counts z ≡ one)) (sym x.made) (x.is, refl, refl)) out
+    where
+      out : (i : ℕ) (c : Command) (l r : List Token) → command i at c l r → head_of c ≡ heads.Remove → RemoveWords i c l r × (command_counts c ≡ one)
+      out i (Remove t k) l r is h = (record { «from» = (t, (k, tt)); is = is; made = refl }, refl)
+      out i _ l r is h = absurd cc
+
+  abort_head : Law places is_else (HeadCmd heads.Abort) (λ l. with_counts n (abort_at l))
+  abort_head = simple heads.Abort (abort_law is_else) (λ i c l r x. subst (λ z. command i at z l r × (head_of z ≡ heads.Abort) × (command_counts z ≡ one)) (sym x.made) (x.is, refl, refl)) out
+    where
+      out : (i : ℕ) (c : Command) (l r : List Token) → command i at c l r → head_of c ≡ heads.Abort → AbortWords i c l r × (command_counts c ≡ one)
+      out i (Abort x) l r is h = (record { «from» = (x, tt); is = is; made = refl }, refl)
+      out i _ l r is h = absurd cc
+
+  reply_head : Law places is_else (HeadCmd heads.Reply) (λ l. with_counts n (reply_at l))
+  reply_head = simple heads.Reply (reply_law is_else) (λ i c l r x. subst (λ z. command i at z l r × (head_of z ≡ heads.Reply) × (command_counts z ≡ one)) (sym x.made) (x.is, refl, refl)) out
+    where
+      out : (i : ℕ) (c : Command) (l r : List Token) → command i at c l r → head_of c ≡ heads.Reply → ReplyWords i c l r × (command_counts c ≡ one)
+      out i (Reply e) l r is h = (record { «from» = (e, tt); is = is; made = refl }, refl)
+      out i _ l r is h = absurd cc
+
+  if_head : Law places is_else (HeadCmd heads.If) (if_at blocks looped n)
+  if_head = map_law if_words if_into (λ i c l r x. if_out i c l r x.0 x.1)
+
+  -- the reading of a statement that is known to begin so
+  abbrev pub branch : Head → List Token → Read Counted
+  branch heads.For l = counted_loop (codes "for") (for_at blocks) l
+  branch heads.Each l = counted_loop (codes "each") (each_at blocks) l
+  branch h l = with_head blocks looped n (Some h) l
+
+  not_looped : (b : Bool) → not (b && true) ≡ true → b ≡ false
+  not_looped true e = absurd cc
+  not_looped false e = refl
+
+  pub branch_law : (h : Head) → may_begin looped (Some h) ≡ true → Law places is_else (HeadCmd h) (branch h)
+  branch_law heads.Let e = let_head
+  branch_law heads.Assign e = assign_head
+  branch_law heads.Get e = get_head
+  branch_law heads.If e = if_head
+  branch_law heads.For e = map_law for_counted (for_into (not_looped looped e)) (λ i c l r x. for_out i c l r x.0 x.1)
+  branch_law heads.Each e = map_law each_counted (each_into (not_looped looped e)) (λ i c l r x. each_out i c l r x.0 x.1)
+  branch_law heads.Insert e = insert_head
+  branch_law heads.Update e = update_head
+  branch_law heads.Remove e = remove_head
+  branch_law heads.Abort e = abort_head
+  branch_law heads.Reply e = reply_head
+
+  looping_read : (w : List ℕ) (h : Head) (body : Counts → List Token → Read Counted) (l : List Token) → is_next (Name w) l ≡ true → loop_at body n l ≡ counted_loop w body l
+  unfolding loop_at
+  looping_read w h body l e = ap (λ b. if b && nat_le 15 n.loops then refuse Many l else body m l) (sym e)
+
+  head_next : (h : Head) (w : List ℕ) (l : List Token) → head_at l ≡ Some h → ((x : List ℕ) → HeadWord h x → x ≡ w) → is_next (Name w) l ≡ true
+  head_next h w [] e same = absurd cc
+  head_next h w (token ∷ l) e same = let t = head_token token l h e in kind_next (Name w) (token ∷ l) l (record { token = token; next = refl; holds = t.1 ∙ ap Name (same t.0 t.2) })
+
+  pub branch_same : (h : Head) (l : List Token) → head_at l ≡ Some h → with_head blocks looped n (Some h) l ≡ branch h l
+  branch_same heads.For l e = looping_read (codes "for") heads.For (for_at blocks) l (head_next heads.For (codes "for") l e (λ x s. s))
+  branch_same heads.Each l e = looping_read (codes "each") heads.Each (each_at blocks) l (head_next heads.Each (codes "each") l e (λ x s. s))
+  branch_same heads.Let l e = refl
+  branch_same heads.Assign l e = refl
+  branch_same heads.Get l e = refl
+  branch_same heads.If l e = refl
+  branch_same heads.Insert l e = refl
+  branch_same heads.Update l e = refl
+  branch_same heads.Remove l e = refl
+  branch_same heads.Abort l e = refl
+  branch_same heads.Reply l e = refl
+
+  -- all statements
+
+  abbrev pub starts : List Token → Bool
+  starts l = may_begin looped (head_at l)
+
+  abbrev pub cmd_at : List Token → Read Counted
+  cmd_at l = if may_begin looped (head_at l) then with_head blocks looped n (head_at l) l else refuse Syntax l
+
+  starts_alike : (a b : List Token) → Alike a b → starts a ≡ starts b
+  starts_alike a b alike = ap (may_begin looped) (head_alike a b alike)
+
+  by_head : (h : Head) (l : List Token) → head_at l ≡ Some h → may_begin looped (Some h) ≡ true → cmd_at l ≡ branch h l
+  by_head h l e t =
+      ap (λ (x : Option Head). if may_begin looped x then with_head blocks looped n x l else refuse Syntax l) e
+      ∙ ap (λ b. cond b (with_head blocks looped n (Some h) l) (refuse Syntax l)) t ∙ branch_same h l e
+
+  misplaced : (l : List Token) → starts l ≡ false → cmd_at l ≡ refuse Syntax l
+  misplaced l e = ap (λ b. cond b (with_head blocks looped n (head_at l) l) (refuse Syntax l)) e
+
+  same_head : (h : Head) (tokens last : List Token) → Alike tokens last → head_at tokens ≡ Some h → head_at last ≡ Some h
+  same_head h tokens last alike e = sym (head_alike tokens last alike) ∙ e
+
+  cmd_took : (tokens : List Token) (c : Counted) (rest : List Token) → cmd_at tokens ≡ Ok (c, rest) → Took places (Cmd depth looped before) cmd_at tokens c rest
+  cmd_took tokens c rest e = by_found (head_at tokens) refl
+    where
+      by_start : (h : Head) → head_at tokens ≡ Some h → (b : Bool) → may_begin looped (Some h) ≡ b → Took places (Cmd depth looped before) cmd_at tokens c rest
+      by_start h f true t = took_map (λ x. x) (λ i a l r is. is.0) (λ last x alike is. by_head h last (same_head h tokens last alike f) t ∙ is)
+          ((branch_law h t).took tokens c rest (sym (by_head h tokens f t) ∙ e))
+      by_start h f false t = let bad : ◌≡◌ {A = Read Counted} (refuse Syntax tokens) (Ok (c, rest)) = sym (misplaced tokens (ap (may_begin looped) f ∙ t)) ∙ e in absurd cc
+
+      by_found : (o : Option Head) → head_at tokens ≡ o → Took places (Cmd depth looped before) cmd_at tokens c rest
+      by_found None f = let bad : ◌≡◌ {A = Read Counted} (refuse Syntax tokens) (Ok (c, rest)) = sym (misplaced tokens (ap (may_begin looped) f)) ∙ e in absurd cc
+      by_found (Some h) f = by_start h f (may_begin looped (Some h)) refl
+
+  cmd_some : Opens places (Cmd depth looped before) []
+  cmd_some = opens_map (λ x. x) (λ i c l r is. is.0) [] reply_head.some
+
+  refused_here : (tokens : List Token) (fault : Fault) → starts tokens ≡ false → cmd_at tokens ≡ Err fault → Stuck places (Cmd depth looped before) cmd_at tokens fault
+  refused_here tokens fault t e = record {
+    front = [];
+    rest = tokens;
+    code = Syntax;
+    whole = refl;
+    place = let same : ◌≡◌ {A = Read Counted} (refuse Syntax tokens) (Err fault) = sym (misplaced tokens t) ∙ e in let faults : record { code = Syntax; left = length tokens } ≡ fault = cc in sym faults;
+    opens = cmd_some;
+    cause = Misplaced tokens;
+    again = λ last alike. misplaced last (sym (starts_alike tokens last alike) ∙ t);
+  }
+
+  cmd_fails : (tokens : List Token) (fault : Fault) → cmd_at tokens ≡ Err fault → Stuck places (Cmd depth looped before) cmd_at tokens fault
+  cmd_fails tokens fault e = by_found (head_at tokens) refl
+    where
+      by_start : (h : Head) → head_at tokens ≡ Some h → (b : Bool) → may_begin looped (Some h) ≡ b → Stuck places (Cmd depth looped before) cmd_at tokens fault
+      by_start h f true t = stuck_map (λ x. x) (λ i a l r is. is.0) (λ last x alike is. by_head h last (same_head h tokens last alike f) t ∙ is)
+          ((branch_law h t).fails tokens fault (sym (by_head h tokens f t) ∙ e))
+      by_start h f false t = refused_here tokens fault (ap (may_begin looped) f ∙ t) e
+
+      by_found : (o : Option Head) → head_at tokens ≡ o → Stuck places (Cmd depth looped before) cmd_at tokens fault
+      by_found None f = refused_here tokens fault (ap (may_begin looped) f) e
+      by_found (Some h) f = by_start h f (may_begin looped (Some h)) refl
+
+  cmd_all : (i : ℕ) (c : Counted) (l r : List Token) → Cmd depth looped before i c l r → is_else r ≡ false → Reads places i (cmd_at l) c r
+  cmd_all i c l r is clear =
+      let h = head_command i at c.0 l r is.is in
+      let t = command_begins i at c.0 l r is.is in
+      reads_same (by_head (head_of c.0) l h t) ((branch_law (head_of c.0) t).all i c l r (is, refl) clear)
+
+  pub cmd_law : Law places is_else (Cmd depth looped before) cmd_at
+  cmd_law = record { some = cmd_some; took = cmd_took; all = cmd_all; fails = cmd_fails }
+
+  pub cmd_starts : (i : ℕ) (c : Counted) (l r : List Token) → Cmd depth looped before i c l r → starts l ≡ true
+  cmd_starts i c l r is = ap (may_begin looped) (head_command i at c.0 l r is.is) ∙ command_begins i at c.0 l r is.is

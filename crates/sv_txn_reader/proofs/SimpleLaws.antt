@@ -75,14 +75,20 @@ let_law clash n = skip (Name (codes "let")) (let_of n) (limited_made 32 n.variab
 
 -- the others
 
-pub assign_law : (clash : List Token → Bool) → Law places clash (Made (λ (x : Settled). Assign x.0.0 x.0.1) SetWords) assign_at
+abbrev pub AssignWords : ℕ → Command → List Token → List Token → Type 0
+AssignWords = Made (λ (x : Settled). Assign x.0.0 x.0.1) SetWords
+
+pub assign_law : (clash : List Token → Bool) → Law places clash AssignWords assign_at
 unfolding assign_at
 assign_law clash = take (λ (s : Ident × Term) (_ : Unit {0}). Assign s.0 s.1) setting_law (λ s. skip_last places clash (Mark marks.Semi) (Assign s.0 s.1)) (λ i a t l r is clear. semi_adds l r is)
 
 abbrev pub Fetched : Type 0
 Fetched = Ident × (Ident × (List Term × Unit {0}))
 
-pub get_law : (clash : List Token → Bool) → Law places clash (Made (λ (x : Fetched). Fetch x.0 x.1.0 x.1.1.0) (λ i x. word (codes "get") · name x.0 · mark marks.Eq · name x.1.0 · index i x.1.1.0 · mark marks.Semi)) get_at
+abbrev pub GetWords : ℕ → Command → List Token → List Token → Type 0
+GetWords = Made (λ (x : Fetched). Fetch x.0 x.1.0 x.1.1.0) (λ i x. word (codes "get") · name x.0 · mark marks.Eq · name x.1.0 · index i x.1.1.0 · mark marks.Semi)
+
+pub get_law : (clash : List Token → Bool) → Law places clash GetWords get_at
 unfolding get_at
 get_law clash = skip (Name (codes "get")) (λ (x : Fetched). Fetch x.0 x.1.0 x.1.1.0) (take {before = anything} (λ (a : Ident) (x : Ident × (List Term × Unit {0})). Fetch a x.0 x.1.0) (name_law places anything)
     (λ a. skip (Mark marks.Eq) (λ (x : Ident × (List Term × Unit {0})). Fetch a x.0 x.1.0) (take {before = anything} (λ (t : Ident) (x : List Term × Unit {0}). Fetch a t x.0) (name_law places anything)
@@ -92,8 +98,10 @@ get_law clash = skip (Name (codes "get")) (λ (x : Fetched). Fetch x.0 x.1.0 x.1
 abbrev pub Inserted : Type 0
 Inserted = Ident × (List Term × Unit {0})
 
-pub insert_law : (clash : List Token → Bool)
-    → Law places clash (Made (λ (x : Inserted). Insert x.0 x.1.0) (λ i x. word (codes "insert") · name x.0 · mark marks.LeftParen · separated (expr i) x.1.0 · mark marks.RightParen · mark marks.Semi)) insert_at
+abbrev pub InsertWords : ℕ → Command → List Token → List Token → Type 0
+InsertWords = Made (λ (x : Inserted). Insert x.0 x.1.0) (λ i x. word (codes "insert") · name x.0 · mark marks.LeftParen · separated (expr i) x.1.0 · mark marks.RightParen · mark marks.Semi)
+
+pub insert_law : (clash : List Token → Bool) → Law places clash InsertWords insert_at
 unfolding insert_at
 insert_law clash = skip (Name (codes "insert")) (λ (x : Inserted). Insert x.0 x.1.0) (take {before = anything} (λ (t : Ident) (x : List Term × Unit {0}). Insert t x.0) (name_law places anything)
     (λ t. skip (Mark marks.LeftParen) (λ (x : List Term × Unit {0}). Insert t x.0) (take (λ (vs : List Term) (_ : Unit {0}). Insert t vs) values_law
@@ -102,20 +110,28 @@ insert_law clash = skip (Name (codes "insert")) (λ (x : Inserted). Insert x.0 x
 abbrev pub Updated : Type 0
 Updated = Ident × (List Term × (List (Ident × Term) × Unit {0}))
 
-pub update_law : (clash : List Token → Bool)
-    → Law places clash (Made (λ (x : Updated). Update x.0 x.1.0 x.1.1.0) (λ i x. word (codes "update") · name x.0 · index i x.1.0 · word (codes "set") · separated (setting i) x.1.1.0 · mark marks.Semi)) update_at
+abbrev pub UpdateWords : ℕ → Command → List Token → List Token → Type 0
+UpdateWords = Made (λ (x : Updated). Update x.0 x.1.0 x.1.1.0) (λ i x. word (codes "update") · name x.0 · index i x.1.0 · word (codes "set") · separated (setting i) x.1.1.0 · mark marks.Semi)
+
+pub update_law : (clash : List Token → Bool) → Law places clash UpdateWords update_at
 unfolding update_at
 update_law clash = skip (Name (codes "update")) (λ (x : Updated). Update x.0 x.1.0 x.1.1.0) (take {before = anything} (λ (t : Ident) (x : List Term × (List (Ident × Term) × Unit {0})). Update t x.0 x.1.0) (name_law places anything)
     (λ t. take {before = anything} (λ (k : List Term) (x : List (Ident × Term) × Unit {0}). Update t k x.0) (index_law anything)
     (λ k. skip (Name (codes "set")) (λ (x : List (Ident × Term) × Unit {0}). Update t k x.0) (take (λ (s : List (Ident × Term)) (_ : Unit {0}). Update t k s) sets_law
     (λ s. skip_last places clash (Mark marks.Semi) (Update t k s)) (λ i a t l r is clear. semi_joins l r is))) (λ i a t l r is clear. refl)) (λ i a t l r is clear. refl))
 
-pub remove_law : (clash : List Token → Bool) → Law places clash (Made (λ (x : Inserted). Remove x.0 x.1.0) (λ i x. word (codes "remove") · name x.0 · index i x.1.0 · mark marks.Semi)) remove_at
+abbrev pub RemoveWords : ℕ → Command → List Token → List Token → Type 0
+RemoveWords = Made (λ (x : Inserted). Remove x.0 x.1.0) (λ i x. word (codes "remove") · name x.0 · index i x.1.0 · mark marks.Semi)
+
+pub remove_law : (clash : List Token → Bool) → Law places clash RemoveWords remove_at
 unfolding remove_at
 remove_law clash = skip (Name (codes "remove")) (λ (x : Inserted). Remove x.0 x.1.0) (take {before = anything} (λ (t : Ident) (x : List Term × Unit {0}). Remove t x.0) (name_law places anything)
     (λ t. take {before = anything} (λ (k : List Term) (_ : Unit {0}). Remove t k) (index_law anything) (λ k. skip_last places clash (Mark marks.Semi) (Remove t k)) (λ i a t l r is clear. refl)) (λ i a t l r is clear. refl))
 
-pub reply_law : (clash : List Token → Bool) → Law places clash (Made (λ (x : Term × Unit {0}). Reply x.0) (λ i x. word (codes "reply") · expr i x.0 · mark marks.Semi)) reply_at
+abbrev pub ReplyWords : ℕ → Command → List Token → List Token → Type 0
+ReplyWords = Made (λ (x : Term × Unit {0}). Reply x.0) (λ i x. word (codes "reply") · expr i x.0 · mark marks.Semi)
+
+pub reply_law : (clash : List Token → Bool) → Law places clash ReplyWords reply_at
 unfolding reply_at
 reply_law clash = skip (Name (codes "reply")) (λ (x : Term × Unit {0}). Reply x.0) (take (λ (e : Term) (_ : Unit {0}). Reply e) expr_law (λ e. skip_last places clash (Mark marks.Semi) (Reply e)) (λ i a t l r is clear. semi_adds l r is))
 
@@ -200,7 +216,10 @@ code_law clash = map_law (read_law same
         by_test false t k (inr late) = let many : n ≤ 999 → ⊥ = λ few. grind (arith, nat_tests, t, few) in
             Left (ap is_large k.next ∙ large_of (natural_of k.token) n (ap natural k.holds) many, late, k)
 
-pub abort_law : (clash : List Token → Bool) → Law places clash (Made (λ (x : ℕ × Unit {0}). Abort x.0) (λ i x. word (codes "abort") · code i x.0 · mark marks.Semi)) abort_at
+abbrev pub AbortWords : ℕ → Command → List Token → List Token → Type 0
+AbortWords = Made (λ (x : ℕ × Unit {0}). Abort x.0) (λ i x. word (codes "abort") · code i x.0 · mark marks.Semi)
+
+pub abort_law : (clash : List Token → Bool) → Law places clash AbortWords abort_at
 unfolding abort_at
 abort_law clash = read_law same (skip (Name (codes "abort")) (λ (x : ℕ × Unit {0}). Abort x.0)
     (take {before = anything} (λ (n : ℕ) (_ : Unit {0}). Abort n) (code_law anything) (λ n. skip_last places clash (Mark marks.Semi) (Abort n)) (λ i a t l r is clear. refl)))
