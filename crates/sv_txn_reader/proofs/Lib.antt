@@ -1,14 +1,17 @@
 pub mod ChainLaws
+pub mod CommandLaws
 pub mod ExprLaws
 pub mod FactorLaws
 pub mod Laws
 pub mod LeafLaws
+pub mod HeadLaws
 pub mod LimitLaws
 pub mod ListLaws
 pub mod LiteralLaws
 pub mod OperatorLaws
 pub mod PieceLaws
 pub mod RoomLaws
+pub mod SimpleLaws
 pub mod TermLaws
 pub mod TestLaws
 pub mod TestRoomLaws
