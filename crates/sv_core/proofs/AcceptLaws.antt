@@ -1,21 +1,17 @@
 -- A schema of one counter table is accepted.
-use Rattle.std.proofs.Common.{◌≡◌, ◌≢◌, ℕ, zero, suc, ◌≤◌, if◌then◌else◌, Bool, true, false, List, [], ◌∷◌, Option, Some, None, refl, sym, ap, subst, ◌∙◌, arith, bytes_eq, All, IsTrue}
+use Rattle.std.proofs.Common.{◌≡◌, ◌≢◌, ℕ, zero, suc, Bool, true, false, List, [], ◌∷◌, None, refl, sym, subst, ◌∙◌, arith, bytes_eq, IsTrue}
 use Rattle.std.proofs.lemmas.List.Elements.{All-nil, All-cons}
 use Rattle.std.proofs.lemmas.Slice.Eq.{bytes_eq-Decides}
 use Rattle.sv_app.specs.declared.apps.Ident.{Ident}
 use Rattle.sv_app.specs.declared.schemas.Column.{Column}
 use Rattle.sv_app.specs.declared.schemas.Kind.TheVariants.{Uoset}
 use Rattle.sv_app.specs.declared.schemas.Merge.TheVariants.{Plain, NumDelta}
-use Rattle.sv_app.specs.declared.schemas.Ty.{Ty}
 use Rattle.sv_app.specs.declared.schemas.Ty.TheVariants.{Int, Ints}
 use Rattle.sv_app.specs.Schema.{Invariant, Declaration}
 use Rattle.sv_app.specs.Accepted.{AcceptedSchema}
 use Rattle.sv_app.specs.Conditions.{KeepsRule, KeepsTable, IsSmallRule, IsSmallTable}
-use Rattle.sv_app.specs.Numbers.{numbered}
 use Rattle.sv_app.specs.References.{refers, Leads, Step, Further}
-use Rattle.sv_app.specs.Typing.{faults}
-use Rattle.sv_core.specs.CounterTable.{IsCounterSchema}
-use Rattle.sv_core.proofs.CounterLaws.{Counter, counter_in_schema}
+use Rattle.sv_core.proofs.CounterLaws.{Counter}
 
 -- the names of a table, its key, its counter, and of the key once more in `primary key`
 pub record Names (table key counter again : Ident) : Type 0 where

@@ -1,5 +1,5 @@
 -- What a schema of one counter table says of its columns, and of the changes and the initial rows that fit it.
-use Rattle.std.proofs.Common.{◌≡◌, ◌≢◌, ℕ, zero, suc, ◌≤◌, ◌==◌, ◌||◌, true, false, List, [], ◌∷◌, length, Some, None, slice_get, refl, sym, ap, subst, ◌∙◌, arith}
+use Rattle.std.proofs.Common.{◌≡◌, ◌≤◌, ◌==◌, ◌||◌, true, false, List, [], ◌∷◌, length, Some, None, slice_get, refl, sym, ap, subst, ◌∙◌, arith}
 use Rattle.std.specs.Prelude.{ℤ}
 use Rattle.sv_value.specs.declared.values.Val.TheVariants.{Int as IntVal}
 use Rattle.sv_app.specs.declared.acts.Act.TheVariants.{Update}
@@ -9,7 +9,7 @@ use Rattle.sv_app.specs.declared.requests.InitRow.{InitRow}
 use Rattle.sv_app.specs.declared.schemas.Column.{Column}
 use Rattle.sv_app.specs.declared.schemas.Kind.TheVariants.{Uoset}
 use Rattle.sv_app.specs.declared.schemas.Ty.{Ty}
-use Rattle.sv_app.specs.declared.schemas.Ty.TheVariants.{Int, Ints}
+use Rattle.sv_app.specs.declared.schemas.Ty.TheVariants.{Int}
 use Rattle.sv_app.specs.Kinds.{allows}
 use Rattle.sv_app.specs.Schema.{Declaration}
 use Rattle.sv_effect.specs.declared.ops.RowEffect.{RowEffect}

@@ -1,4 +1,4 @@
-use Rattle.std.proofs.Common.{◌≡◌, ◌≤◌, reverse, map, sym, ap, subst, ◌∙◌}
+use Rattle.std.proofs.Common.{◌≤◌, reverse, map, sym, ap, subst, ◌∙◌}
 use Rattle.std.specs.Vec.{vec_capacity}
 use Rattle.std.specs.FinMap.{entries}
 use Rattle.sv_core.specs.Document.{document_of}
