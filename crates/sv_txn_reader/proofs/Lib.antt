@@ -1,3 +1,4 @@
+pub mod BlockLaws
 pub mod ChainLaws
 pub mod CommandLaws
 pub mod ExprLaws
