@@ -27,7 +27,7 @@ use Rattle.sv_txn_reader.proofs.ListLaws.{or_false}
 use Rattle.sv_txn_reader.proofs.PieceLaws.{next_alike, kind_next, Made, take, take_last, skip, skip_last, Turns, Stop, Turn, Turning, lawful_turning, turns_law}
 
 -- the token, of which the kind is known
-as_kind : (token : Token) (k : TokenKind) → token.kind ≡ k → token ≡ record { kind = k; «from» = token.«from»; to = token.to; spot = token.spot }
+pub as_kind : (token : Token) (k : TokenKind) → token.kind ≡ k → token ≡ record { kind = k; «from» = token.«from»; to = token.to; spot = token.spot }
 as_kind token k e = λ i. record { kind = e i; «from» = token.«from»; to = token.to; spot = token.spot }
 
 abbrev kinded : TokenKind → Token → List Token

@@ -16,3 +16,4 @@ pub mod SimpleLaws
 pub mod TermLaws
 pub mod TestLaws
 pub mod TestRoomLaws
+pub mod TxnLaws
