@@ -520,18 +520,18 @@ module _ (depth : ℕ) (looped : Bool) (before : Counts) (blocks : Blocks) (inne
   abbrev pub cmd_at : List Token → Read Counted
   cmd_at l = if may_begin looped (head_at l) then with_head blocks looped n (head_at l) l else refuse Syntax l
 
-  starts_alike : (a b : List Token) → Alike a b → starts a ≡ starts b
+  pub starts_alike : (a b : List Token) → Alike a b → starts a ≡ starts b
   starts_alike a b alike = ap (may_begin looped) (head_alike a b alike)
 
-  by_head : (h : Head) (l : List Token) → head_at l ≡ Some h → may_begin looped (Some h) ≡ true → cmd_at l ≡ branch h l
+  pub by_head : (h : Head) (l : List Token) → head_at l ≡ Some h → may_begin looped (Some h) ≡ true → cmd_at l ≡ branch h l
   by_head h l e t =
       ap (λ (x : Option Head). if may_begin looped x then with_head blocks looped n x l else refuse Syntax l) e
       ∙ ap (λ b. cond b (with_head blocks looped n (Some h) l) (refuse Syntax l)) t ∙ branch_same h l e
 
-  misplaced : (l : List Token) → starts l ≡ false → cmd_at l ≡ refuse Syntax l
+  pub misplaced : (l : List Token) → starts l ≡ false → cmd_at l ≡ refuse Syntax l
   misplaced l e = ap (λ b. cond b (with_head blocks looped n (head_at l) l) (refuse Syntax l)) e
 
-  same_head : (h : Head) (tokens last : List Token) → Alike tokens last → head_at tokens ≡ Some h → head_at last ≡ Some h
+  pub same_head : (h : Head) (tokens last : List Token) → Alike tokens last → head_at tokens ≡ Some h → head_at last ≡ Some h
   same_head h tokens last alike e = sym (head_alike tokens last alike) ∙ e
 
   cmd_took : (tokens : List Token) (c : Counted) (rest : List Token) → cmd_at tokens ≡ Ok (c, rest) → Took places (Cmd depth looped before) cmd_at tokens c rest

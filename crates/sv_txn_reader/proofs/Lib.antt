@@ -1,3 +1,4 @@
+pub mod BlockLaws
 pub mod ChainLaws
 pub mod CommandLaws
 pub mod ExprLaws
@@ -15,3 +16,4 @@ pub mod SimpleLaws
 pub mod TermLaws
 pub mod TestLaws
 pub mod TestRoomLaws
+pub mod TxnLaws

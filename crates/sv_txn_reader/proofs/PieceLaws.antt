@@ -317,6 +317,24 @@ module _ {S : Type 0} (test : List Token → Bool) (turn : S → List Token → 
 abbrev pub Perhaps : {I S : Type 0} → (S → I → S → List Token → List Token → Type 0) → S → I → S → List Token → List Token → Type 0
 Perhaps T s = Either (Is s) (T s)
 
+module _ {S : Type 0} (test : List Token → Bool) (turn : S → List Token → Read S)
+    (shorter : (s : S) (tokens : List Token) (m : S) (rest : List Token) → test tokens ≡ true → turn s tokens ≡ Ok (m, rest) → length rest < length tokens) where
+  stopped_from : (n : ℕ) (s : S) (tokens : List Token) (e : S) (rest : List Token) → length tokens < n → turns_at test turn keep s tokens ≡ Ok (e, rest) → test rest ≡ false
+  stopped_from zero s tokens e rest lt is = absurd (omega (arith, lt))
+  stopped_from (suc n) s tokens e rest lt is = by_test (λ m r fits is. stopped_from n m r e rest fits is) (test tokens) refl
+    where
+      by_bound : ((m : S) (r : List Token) → length r < n → turns_at test turn keep m r ≡ Ok (e, rest) → test rest ≡ false) → test tokens ≡ true
+          → Bound (turn s tokens) (λ m r. turns_at test turn keep m r) (Ok (e, rest)) → test rest ≡ false
+      by_bound more t b = more b.item b.rest (let less = shorter s tokens b.item b.rest t b.is in omega (arith, less, lt)) b.left
+
+      by_test : ((m : S) (r : List Token) → length r < n → turns_at test turn keep m r ≡ Ok (e, rest) → test rest ≡ false) → (b : Bool) → test tokens ≡ b → test rest ≡ false
+      by_test more true t = by_bound more t (bound (turn s tokens) (λ m r. turns_at test turn keep m r) (e, rest) (sym (turn_on test turn shorter s tokens t) ∙ is))
+      by_test more false t = let same = same_read (sym (turn_end test turn shorter s tokens t) ∙ is) in subst (λ l. test l ≡ false) same.rests t
+
+  -- turns end where the test isn't passed
+  pub stopped : (s : S) (tokens : List Token) (e : S) (rest : List Token) → turns_at test turn keep s tokens ≡ Ok (e, rest) → test rest ≡ false
+  stopped s tokens e rest is = stopped_from (suc (length tokens)) s tokens e rest (omega arith) is
+
 -- what is asked of turns
 pub record Turning (M : Mode) {S : Type 0} (before clash test : List Token → Bool) (turn : S → List Token → Read S) (T : S → M.Index → S → List Token → List Token → Type 0) : Type 0 where
   pub alike : (a b : List Token) → Alike a b → test a ≡ test b

@@ -423,12 +423,18 @@ txn_at tokens =
     kind_at (Mark marks.RightParen) r4 >>= λ _ r5. block_at 8 false (counts 0 0 0) r5 >>= λ body r6.
     Ok (record { name = name; params = params; body = block_from body.0 }, r6)
 
--- one more transaction
-unfoldable pub txn_step : List Transaction → List Token → Read (List Transaction)
-txn_step txns tokens = if nat_le 32 (length txns) then refuse Many tokens else (txn_at tokens >>= λ t r. Ok (txns ++ t ∷ [], r))
-
 abbrev pub begins_txn : List Token → Bool
 begins_txn tokens = is_next (Name (codes "txn")) tokens
 
+-- one more transaction
+unfoldable pub txn_step : List Transaction → List Token → Read (List Transaction)
+txn_step txns tokens =
+    if begins_txn tokens && nat_le 32 (length txns) then refuse Many tokens else (txn_at tokens >>= λ t r. Ok (txns ++ t ∷ [], r))
+
 unfoldable pub txns_at : List Token → Read (List Transaction)
 txns_at tokens = turns_at begins_txn txn_step keep [] tokens
+
+-- what was read, and how many tokens are left
+abbrev pub IsLeft : {A : Type 0} → Read A → A → ℕ → Type 0
+IsLeft (Ok read) a left = (read.0 ≡ a) × (length read.1 ≡ left)
+IsLeft (Err fault) a left = ⊥

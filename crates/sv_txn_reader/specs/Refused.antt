@@ -25,14 +25,19 @@ pub record BeginsWithin (tokens : List Token) : Type 0 where
   pub txns : List Transaction
   pub is : transactions (length more) 0 txns (tokens ++ more) []
 
--- the front keeps the limits, and no rule allows what stands behind it
+-- a transaction begins here
+abbrev pub BeginsTxn : List Token → Type 0
+BeginsTxn [] = ⊥
+BeginsTxn (token ∷ others) = token.kind ≡ Name (codes "txn")
+
+-- the front keeps the limits, and no rule allows what stands behind it: neither a transaction goes on so, nor are they all complete
 pub record IsMisplaced (tokens : List Token) (end : Spot) (refusal : Refusal) : Type 0 where
   pub front : List Token
   pub rest : List Token
   pub whole : tokens ≡ front ++ rest
   pub place : refusal ≡ record { spot = spot_of end rest; code = Syntax }
   pub begins : BeginsWithin front
-  pub unfinished : (txns : List Transaction) → transactions (length tokens) 0 txns tokens rest → ⊥
+  pub unfinished : (txns : List Transaction) → transactions (length tokens) 0 txns tokens rest → (BeginsTxn rest → ⊥) → ⊥
   pub closed : (token : Token) (others : List Token) → rest ≡ token ∷ others → Begins (front ++ token ∷ []) → ⊥
 
 -- the front keeps the limits, and with the token behind it one is passed
@@ -48,11 +53,6 @@ pub record IsTooMany (tokens : List Token) (refusal : Refusal) : Type 0 where
 
 abbrev pub IsRefused : List Token → Spot → Refusal → Type 0
 IsRefused tokens end refusal = IsMisplaced tokens end refusal ⊎ IsTooMany tokens refusal
-
--- a transaction begins here
-abbrev pub BeginsTxn : List Token → Type 0
-BeginsTxn [] = ⊥
-BeginsTxn (token ∷ others) = token.kind ≡ Name (codes "txn")
 
 -- the tokens up to the rest are these transactions, which keep the limits, and none begins behind them
 pub record AreRead (txns : List Transaction) (tokens rest : List Token) : Type 0 where
