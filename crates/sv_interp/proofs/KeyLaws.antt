@@ -22,24 +22,24 @@ use Rattle.sv_interp.specs.Keys.{IsNextBy, Walks, Walked}
 clash : {P : Type 0} (b : Bool) → b ≡ true → b ≡ false → P
 clash b h k = cc
 
-less_of : (o : Ordering) → is_lt o ≡ true → o ≡ Less
+pub less_of : (o : Ordering) → is_lt o ≡ true → o ≡ Less
 less_of Less h = refl
 less_of Equal h = cc
 less_of Greater h = cc
 
 -- the other way round
-above_of : (a b : Key) → key_cmp a b ≡ Less → key_cmp b a ≡ Greater
+pub above_of : (a b : Key) → key_cmp a b ≡ Less → key_cmp b a ≡ Greater
 above_of a b h = key_total.antisymm b a ∙ ap ordering_reverse h
 
-below_of : (a b : Key) → key_cmp a b ≡ Greater → key_cmp b a ≡ Less
+pub below_of : (a b : Key) → key_cmp a b ≡ Greater → key_cmp b a ≡ Less
 below_of a b h = key_total.antisymm b a ∙ ap ordering_reverse h
 
-self_of : (k : Key) (o : Ordering) → key_cmp k k ≡ o → key_cmp k k ≡ Equal
+pub self_of : (k : Key) (o : Ordering) → key_cmp k k ≡ o → key_cmp k k ≡ Equal
 self_of k Less h = let g = above_of k k h in cc
 self_of k Equal h = h
 self_of k Greater h = let g = below_of k k h in cc
 
-lt_trans : (a b c : Key) → is_lt (key_cmp a b) ≡ true → is_lt (key_cmp b c) ≡ true → is_lt (key_cmp a c) ≡ true
+pub lt_trans : (a b c : Key) → is_lt (key_cmp a b) ≡ true → is_lt (key_cmp b c) ≡ true → is_lt (key_cmp a c) ≡ true
 lt_trans a b c h k = ap is_lt (key_total.trans a b c (less_of _ h) (less_of _ k))
 
 least : (a b : Key) (o : Ordering) → key_cmp a b ≡ o → (is_lt (key_cmp a b) ≡ true → ⊥) → (is_lt (key_cmp b a) ≡ true → ⊥) → a ≡ b
@@ -47,7 +47,7 @@ least a b Less e f g = absurd (f (ap is_lt e))
 least a b Equal e f g = exact_keys a b e
 least a b Greater e f g = absurd (g (ap is_lt (below_of a b e)))
 
-later : (o : Option Key) (a b : Key) → is_after o a ≡ true → is_lt (key_cmp a b) ≡ true → is_after o b ≡ true
+pub later : (o : Option Key) (a b : Key) → is_after o a ≡ true → is_lt (key_cmp a b) ≡ true → is_after o b ≡ true
 later None a b h l = refl
 later (Some j) a b h l = lt_trans j a b h l
 
@@ -73,7 +73,7 @@ walk_from : (p : Key → Bool) (j : Key) (xs : List Key) → ((k : Key) → p k 
 walk_from p j [] far h = λ k a. h k refl
 walk_from p j (x ∷ xs) far h = ((far x h.0.1, h.0.1, λ k a l. h.0.2 k refl l), h.1)
 
-abbrev found : ℕ → List (Place × Row) → Key → Bool
+abbrev pub found : ℕ → List (Place × Row) → Key → Bool
 found table es k = (seen_in (find place_cmp (place_at table k) es)).present
 
 abbrev chosen_by : Ordering → Bool → Bool → Bool
@@ -122,11 +122,11 @@ found_rest table e es k Equal h b = ap (λ r. (seen_in r).present) (none_early (
 found_rest table e es k Greater h b = refl
 
 -- the order of two places of one table is that of their keys
-in_table : (table : ℕ) (k : Key) (f : Place) → (table == f.table) ≡ true → place_cmp (place_at table k) f ≡ key_cmp k f.key
+pub in_table : (table : ℕ) (k : Key) (f : Place) → (table == f.table) ≡ true → place_cmp (place_at table k) f ≡ key_cmp k f.key
 in_table table k f h = grind (arith, nat_tests)
 
 -- no key of another table ties
-other_table : (table : ℕ) (k : Key) (f : Place) → (table == f.table) ≡ false → place_cmp (place_at table k) f ≢ Equal
+pub other_table : (table : ℕ) (k : Key) (f : Place) → (table == f.table) ≡ false → place_cmp (place_at table k) f ≢ Equal
 other_table table k f h e = grind (arith, nat_tests)
 
 absent_same : (o : Ordering) (b c : Bool) → o ≢ Equal → b ≡ chosen_by o false b → chosen_by o c b ≡ b

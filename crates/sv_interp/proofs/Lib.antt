@@ -1,4 +1,5 @@
 pub mod KeyLaws
+pub mod LaidLaws
 pub mod LookLaws
 pub mod LoopLaws
 pub mod NeedLaws

@@ -1,14 +1,16 @@
 -- The keys at which a test holds, from one to the next.
-use Rattle.std.specs.Prelude.{◌≡◌, ℕ, Bool, true, false, List, [], ◌∷◌, ◌++◌, Option, Some, None, if◌then◌else◌}
+use Rattle.std.specs.Prelude.{◌≡◌, ◌==◌, ℕ, Bool, true, false, List, [], ◌∷◌, ◌++◌, Option, Some, None, if◌then◌else◌}
 use Rattle.std.specs.Ordering.{is_lt}
 use Rattle.std.specs.declared.cmp.Ordering.{Ordering}
 use Rattle.std.specs.declared.cmp.Ordering.TheVariants.{Less, Equal, Greater}
 use Rattle.sv_value.specs.declared.values.Key.{Key}
 use Rattle.sv_value.specs.Orders.{key_cmp}
+use Rattle.sv_app.specs.declared.places.Place.{Place}
 use Rattle.sv_app.specs.Tables.{Tables}
 use Rattle.sv_effect.specs.Agrees.{is_after, is_present, IsNextKey}
 use Rattle.sv_effect.specs.Follows.{Follows}
 use Rattle.sv_effect.specs.Reads.{ReadValue}
+use Rattle.sv_interp.specs.declared.states.OwnRow.{OwnRow}
 
 -- the least key after the given one at which the test holds, or none
 abbrev pub IsNextBy : (Key → Bool) → Option Key → Option Key → Type 0
@@ -24,3 +26,26 @@ pub record Walked (told_before told_now : Option Tables) (before now : Option (L
   pub keys : List Key
   pub grown : new ≡ old ++ keys
   pub ran : Follows told_before told_now before now (λ t. Walks (is_present t table) after keys)
+
+-- keys in order, with one of them and without it
+abbrev pub with_by : Ordering → Key → Key → List Key → List Key → List Key
+with_by Less j x xs more = j ∷ x ∷ xs
+with_by Equal j x xs more = x ∷ xs
+with_by Greater j x xs more = x ∷ more
+
+abbrev pub with_key : Key → List Key → List Key
+with_key j [] = j ∷ []
+with_key j (x ∷ xs) = with_by (key_cmp j x) j x xs (with_key j xs)
+
+abbrev pub without_by : Ordering → Key → List Key → List Key → List Key
+without_by Less x xs more = x ∷ xs
+without_by Equal x xs more = xs
+without_by Greater x xs more = x ∷ more
+
+abbrev pub without_key : Key → List Key → List Key
+without_key j [] = []
+without_key j (x ∷ xs) = without_by (key_cmp j x) x xs (without_key j xs)
+
+-- the keys of present rows of a table, after a row was written
+abbrev pub laid : Place × OwnRow → ℕ → List Key → List Key
+laid e table ks = if table == e.0.table then (if e.1.present then with_key e.0.key ks else without_key e.0.key ks) else ks

@@ -297,3 +297,10 @@ pub fn zeros(alloc: Global, table: &Table, key: &Key) -> Result<List<Got>, NoMem
     let parts = key_values(alloc, key)?;
     zeros_from(alloc, table, parts.items(), 0, &table.columns)
 }
+
+/// Appends a key.
+pub fn put_key(keys: &mut List<Key>, key: &Key) -> Result<(), NoMemory>
+    ensures { OnOk result (keys.new ≡ keys.old ++ key.now ∷ []) }
+{
+    keys.push(*key)
+}

@@ -7,6 +7,7 @@ mod keys;
 mod looks;
 mod loops;
 mod needs;
+mod overlays;
 mod runs;
 mod scopes;
 mod statements;

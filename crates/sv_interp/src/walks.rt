@@ -5,14 +5,9 @@ ghost use Rattle.sv_effect.specs.declared.reads.Halt.TheVariants as halt;
 ghost use Rattle.sv_effect.specs.Agrees.{key_behind};
 ghost use Rattle.sv_interp.specs.Keys.{Walked};
 
+use crate::inserts::put_key;
 use sv_effect::{Halt, Rows, ask_next};
-use sv_value::{Key, List, NoMemory};
-
-fn put_key(keys: &mut List<Key>, key: &Key) -> Result<(), NoMemory>
-    ensures { OnOk result (keys.new ≡ keys.old ++ key.now ∷ []) }
-{
-    keys.push(*key)
-}
+use sv_value::{Key, List};
 
 /// Appends the keys of the present rows of a table after a key, in order.
 #[tactic(auto, using(crate::proofs::KeyLaws::walking))]
