@@ -11,4 +11,6 @@ pub mod FillLaws
 pub mod FirstLaws
 pub mod LookupLaws
 pub mod StatementLaws
+pub mod SystemLaws
+pub mod UnmetLaws
 pub mod ValueLaws

@@ -3,6 +3,7 @@
 
 mod acceptance;
 mod changes;
+mod checks;
 mod columns;
 mod copies;
 mod cycles;
