@@ -1,4 +1,5 @@
 pub mod AcceptanceLaws
+pub mod NameLaws
 pub mod NotedLaws
 pub mod NumberedSchema
 pub mod NumberedTxns

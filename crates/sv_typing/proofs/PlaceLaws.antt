@@ -33,7 +33,7 @@ pub right_none : {A : Type 0} (a b : List A) → a ++ b ≡ [] → b ≡ []
 right_none [] b e = e
 right_none (x ∷ a) b e = absurd cc
 
-each_none : {T A : Type 0} (f : T → List A) (xs : List T) (k : ℕ) (x : T) → flat_map f xs ≡ [] → slice_get xs k ≡ Some x → f x ≡ []
+pub each_none : {T A : Type 0} (f : T → List A) (xs : List T) (k : ℕ) (x : T) → flat_map f xs ≡ [] → slice_get xs k ≡ Some x → f x ≡ []
 each_none f [] k x e s = absurd cc
 each_none f (y ∷ ys) zero x e s = let same : y ≡ x = cc in subst (λ z. f z ≡ []) same (left_none (f y) (flat_map f ys) e)
 each_none f (y ∷ ys) (suc k) x e s = each_none f ys k x (right_none (f y) (flat_map f ys) e) s
@@ -56,15 +56,15 @@ place_own (y ∷ ys) (suc k) x e s =
     rw (other, rest) refl
 
 -- what stands at a place of a list that is mapped
-mapped_at : {A B : Type 0} (f : A → B) (xs : List A) (k : ℕ) (y : B) → slice_get (map f xs) k ≡ Some y → (x : A) × (slice_get xs k ≡ Some x) × (f x ≡ y)
+pub mapped_at : {A B : Type 0} (f : A → B) (xs : List A) (k : ℕ) (y : B) → slice_get (map f xs) k ≡ Some y → (x : A) × (slice_get xs k ≡ Some x) × (f x ≡ y)
 mapped_at f [] k y e = absurd cc
 mapped_at f (x ∷ xs) zero y e = let same : f x ≡ y = cc in (x, refl, same)
 mapped_at f (x ∷ xs) (suc k) y e = mapped_at f xs k y e
 
-map_at : {A B : Type 0} (f : A → B) (xs : List A) (k : ℕ) (x : A) → slice_get xs k ≡ Some x → slice_get (map f xs) k ≡ Some (f x)
+pub map_at : {A B : Type 0} (f : A → B) (xs : List A) (k : ℕ) (x : A) → slice_get xs k ≡ Some x → slice_get (map f xs) k ≡ Some (f x)
 map_at f xs k x s = slice_get-map f xs k ∙ ap (λ o. option_map f o) s
 
-own_number : (names : List Ident) (k : ℕ) (x : Ident) → repeats names ≡ [] → slice_get names k ≡ Some x → (numbered_in names x).num ≡ k
+pub own_number : (names : List Ident) (k : ℕ) (x : Ident) → repeats names ≡ [] → slice_get names k ≡ Some x → (numbered_in names x).num ≡ k
 own_number names k x e s = ap (λ o. unwrap_or o 0) (place_own names k x e s)
 
 -- nothing is wrong in the schema where nothing is wrong at all

@@ -38,11 +38,7 @@ fn later_refusal(alloc: Global, tables: &[Table]) -> Result<Option<Refusal>, NoM
 }
 
 /// The refusal that the tables and transactions get, if they aren't accepted.
-fn first_refusal(
-    alloc: Global,
-    tables: &[Table],
-    txns: &[Txn],
-) -> Result<Option<Refusal>, NoMemory>
+fn first_refusal(alloc: Global, tables: &[Table], txns: &[Txn]) -> Result<Option<Refusal>, NoMemory>
     requires { KeepsLimits (schema_of tables.now) }
     ensures { IfOk result (λ found. MatchOption found (IsAccepted (schema_of tables.now) (transactions_of txns.now)) (λ refusal. IsRefused (schema_of tables.now) (transactions_of txns.now) refusal)) }
 {
