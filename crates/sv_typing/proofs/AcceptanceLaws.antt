@@ -1,21 +1,16 @@
 -- The phases put together, and what the limits say of each table.
-use Rattle.std.proofs.Common.{◌≡◌, ℕ, suc, zero, ◌<◌, ◌≤◌, Bool, true, false, List, [], ◌∷◌, length, get_or, arith, sym, ◌∙◌, Option, Some, None, subst}
+use Rattle.std.proofs.Common.{◌≡◌, ℕ, suc, zero, ◌<◌, ◌≤◌, Bool, true, false, List, [], ◌∷◌, length, get_or, arith, sym, ◌∙◌, Some, subst}
 use Rattle.std.specs.List.{All, find}
-use Rattle.std.specs.Option.{MatchOption}
 use Rattle.std.specs.Prelude.{if◌then◌else◌}
-use Rattle.sv_app.specs.declared.refusals.Refusal.{Refusal}
 use Rattle.sv_app.specs.declared.schemas.Table.{Table}
 use Rattle.sv_app.specs.Accepted.{AcceptedApp}
-use Rattle.sv_app.specs.Acceptance.{IsAccepted, IsRefused, ByChecks}
+use Rattle.sv_app.specs.Acceptance.{IsAccepted}
 use Rattle.sv_app.specs.Conditions.{IsSmallTable, KeepsGrammar, KeepsLimits, AreNumbered}
 use Rattle.sv_app.specs.Numbers.{numbered}
-use Rattle.sv_app.specs.References.{IsOnCycle}
-use Rattle.sv_app.specs.Satisfiable.{AreSatisfiable, IsUnmet}
 use Rattle.sv_app.specs.Schema.{Declaration, declaration_of, schema_of}
 use Rattle.sv_app.specs.Trees.{Transaction}
 use Rattle.sv_app.specs.TxnConditions.{KeepsTxnGrammar, KeepsTxnLimits}
 use Rattle.sv_app.specs.TxnNumbers.{numbered_txns}
-use Rattle.sv_app.specs.TxnTyping.{all_faults}
 use Rattle.sv_typing.specs.Systems.{AreNarrow}
 use Rattle.sv_typing.proofs.UnmetLaws.{are_narrow}
 use Rattle.sv_typing.proofs.NumberedSchema.{grammar_numbered, limits_numbered, invariants_numbered, faults_numbered, acyclic_numbered, numbered_twice}

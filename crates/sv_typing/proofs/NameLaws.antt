@@ -6,11 +6,10 @@ use Rattle.sv_app.specs.declared.apps.Ident.{Ident}
 use Rattle.sv_app.specs.declared.names.Declared.{Declared}
 use Rattle.sv_app.specs.declared.schemas.Ty.{Ty}
 use Rattle.sv_app.specs.Acceptance.{IsAccepted}
-use Rattle.sv_app.specs.Numbers.{numbered_in}
 use Rattle.sv_app.specs.Schema.{Declaration}
 use Rattle.sv_app.specs.Statements.{block_statements}
 use Rattle.sv_app.specs.Trees.{Command, Declare, Assign, Fetch, Choose, ForRows, ForEach, Insert, Update, Remove, Abort, Reply, Transaction}
-use Rattle.sv_app.specs.TxnNames.{plain_name, declared_by, declares, names_of}
+use Rattle.sv_app.specs.TxnNames.{plain_name, declared_by, names_of}
 use Rattle.sv_app.specs.TxnNumbers.{Naming, naming, numbered_name, numbered_command, numbered_parameter, txn_names, numbered_txn, numbered_txns}
 use Rattle.sv_app.specs.TxnTyping.{block_faults, txn_faults}
 use Rattle.sv_app.specs.Scopes.{opening}

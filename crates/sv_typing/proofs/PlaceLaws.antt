@@ -22,7 +22,7 @@ use Rattle.sv_app.specs.Lookups.{is_named, place_of, table_names, column_names}
 use Rattle.sv_app.specs.Numbers.{numbered, numbered_in, numbered_table, numbered_column}
 use Rattle.sv_app.specs.Schema.{Declaration}
 use Rattle.sv_app.specs.Trees.{Transaction}
-use Rattle.sv_app.specs.TxnTyping.{all_faults, txn_faults, txns_faults}
+use Rattle.sv_app.specs.TxnTyping.{all_faults, txns_faults}
 use Rattle.sv_app.specs.Typing.{fault_if, repeats, faults, table_faults, key_faults, column_faults, rule_faults}
 
 pub left_none : {A : Type 0} (a b : List A) → a ++ b ≡ [] → a ≡ []

@@ -1,12 +1,12 @@
 -- The checks of a table and its rows of differences: numbers that meet the ones meet the others, and cycles are the same.
-use Rattle.std.proofs.Common.{◌≡◌, ℕ, zero, suc, ◌<◌, ◌≤◌, ◌+◌, List, [], ◌∷◌, ◌++◌, length, get_or, refl, sym, ap, ◌∙◌, map, subst, arith, Option, Some, None}
+use Rattle.std.proofs.Common.{◌≡◌, ℕ, zero, suc, ◌<◌, List, [], ◌∷◌, length, get_or, refl, sym, ap, ◌∙◌, map, subst, arith, Option, Some, None}
 use Rattle.std.specs.Prelude.{ℤ, pos, ◌+ℤ◌, ◌-ℤ◌, ◌<ℤ◌, ◌≤ℤ◌, slice_get}
 use Rattle.std.specs.List.{All}
 use Rattle.std.proofs.lemmas.Int.{ints}
 use Rattle.std.proofs.lemmas.List.{length-map}
 use Rattle.sv_app.specs.declared.schemas.Check.{Check}
 use Rattle.sv_app.specs.Satisfiable.{checks_of, number_of, value_of, IsMet, IsSatisfiable, bound_at, IsCycleOf}
-use Rattle.sv_app.specs.Satisfiable.{Leads, IsChain as IsCheckChain, sum_of as check_sum}
+use Rattle.sv_app.specs.Satisfiable.{IsChain as IsCheckChain, sum_of as check_sum}
 use Rattle.sv_app.specs.Schema.{Declaration}
 use Rattle.sv_bounds.specs.declared.systems.Diff.{Diff}
 use Rattle.sv_bounds.specs.Differences.{row_at, Holds, Meets, IsChain, sum_of, IsCycle}

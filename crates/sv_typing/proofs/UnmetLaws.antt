@@ -6,12 +6,11 @@ use Rattle.std.specs.List.{All, flat_map}
 use Rattle.std.specs.Option.{option_map, unwrap_or, MatchOption}
 use Rattle.std.proofs.lemmas.List.{length-map, length-append, map-append}
 use Rattle.sv_app.specs.declared.apps.Ident.{Ident}
-use Rattle.sv_app.specs.declared.schemas.Check.{Check}
 use Rattle.sv_app.specs.declared.schemas.Column.{Column}
 use Rattle.sv_app.specs.declared.schemas.Inv.{Inv}
 use Rattle.sv_app.specs.declared.schemas.Table.{Table}
 use Rattle.sv_app.specs.Conditions.{KeepsLimits, IsSmallTable, IsSmallRule}
-use Rattle.sv_app.specs.Lookups.{place_of, is_named, table_of, column_names, table_names}
+use Rattle.sv_app.specs.Lookups.{place_of, is_named, column_names}
 use Rattle.sv_app.specs.Numbers.{numbered, numbered_in, numbered_table, numbered_rule, numbered_invariant}
 use Rattle.sv_app.specs.Satisfiable.{check_in, checks_of, IsSatisfiable, AreSatisfiable, IsCycleOf}
 use Rattle.sv_app.specs.Schema.{Rule, Bound, OneOf, Different, Refers, Invariant, Declaration, declaration_of, schema_of, invariant_of}
@@ -20,7 +19,7 @@ use Rattle.sv_bounds.specs.declared.systems.Answer.{Answer}
 use Rattle.sv_bounds.specs.declared.systems.Answer.TheVariants.{Values, Cycle}
 use Rattle.sv_bounds.specs.Answers.{IsSystem, IsSolution, IsAnswer, assigned}
 use Rattle.sv_bounds.specs.Differences.{IsRow, Meets, IsCycle}
-use Rattle.sv_typing.specs.Systems.{row_of, IsNarrowSide, IsNarrowCheck, IsNarrowRule, IsNarrowTable, AreNarrow}
+use Rattle.sv_typing.specs.Systems.{row_of, IsNarrowSide, IsNarrowRule, IsNarrowTable, AreNarrow}
 use Rattle.sv_typing.proofs.NotedLaws.{flat_taken, flat_mapped}
 use Rattle.sv_typing.proofs.SystemLaws.{satisfied, cycle_same}
 use Rattle.sv_typing.proofs.NumberedSchema.{all_map}

@@ -1,13 +1,5 @@
-use Rattle.std.proofs.Common.{◌≡◌, ap, ◌∙◌, List, map, subst, arith}
-use Rattle.sv_app.specs.Satisfiable.{checks_of}
 use Rattle.sv_app.specs.Schema.{declaration_of}
-use Rattle.sv_bounds.specs.declared.systems.Diff.{Diff}
-use Rattle.sv_bounds.specs.declared.systems.Answer.{Answer}
-use Rattle.sv_bounds.specs.Answers.{IsSystem, IsAnswer, assigned}
-use Rattle.sv_bounds.specs.Differences.{Meets, IsCycle}
-use Rattle.sv_typing.specs.Systems.{row_of}
-use Rattle.sv_typing.proofs.SystemLaws.{satisfied, cycle_same}
-use Rattle.sv_typing.proofs.UnmetLaws.{few_rows, system_is, answer_meets, answer_cycle}
+use Rattle.sv_typing.proofs.UnmetLaws.{system_is, answer_meets, answer_cycle}
 use Rattle.sv_typing.proofs.checks.cycle_of.Goals as goal
 
 pub solve-requires : goal.solve-requires

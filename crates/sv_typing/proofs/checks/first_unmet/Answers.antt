@@ -1,6 +1,4 @@
-use Rattle.std.proofs.Common.{refl, arith, subst, ◌≡◌, Option, Some}
-use Rattle.std.specs.Option.{MatchOption}
-use Rattle.sv_app.specs.Satisfiable.{checks_of, IsSatisfiable, IsCycleOf}
+use Rattle.std.proofs.Common.{refl, arith}
 use Rattle.sv_app.specs.Schema.{declaration_of, schema_of}
 use Rattle.std.proofs.lemmas.List.{length-map}
 use Rattle.sv_typing.proofs.UnmetLaws.{table_at, all_met, cycle_found}
