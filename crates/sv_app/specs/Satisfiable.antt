@@ -1,9 +1,11 @@
 -- Checks that a row can meet: some whole numbers for the columns of the table meet all of them. Where none do, there is a cycle of checks whose
 -- bounds add up to less than zero.
-use Rattle.std.specs.Prelude.{◌≡◌, ◌≢◌, ℕ, ℤ, pos, ◌+ℤ◌, ◌-ℤ◌, ◌<ℤ◌, ◌≤ℤ◌, List, [], ◌∷◌, Option, Some, None, slice_get}
+use Rattle.std.specs.Prelude.{◌≡◌, ◌≢◌, ℕ, ◌<◌, ℤ, pos, ◌+ℤ◌, ◌-ℤ◌, ◌<ℤ◌, ◌≤ℤ◌, List, [], ◌∷◌, Option, Some, None, slice_get}
 use Rattle.std.specs.List.{All, flat_map}
 use Rattle.std.specs.Option.{option_map}
 use Rattle.sv_app.specs.declared.apps.Ident.{Ident}
+use Rattle.sv_app.specs.declared.refusals.Code.TheVariants.{Unsatisfiable}
+use Rattle.sv_app.specs.declared.refusals.Refusal.{Refusal}
 use Rattle.sv_app.specs.declared.schemas.Check.{Check}
 use Rattle.sv_app.specs.Schema.{Rule, Bound, OneOf, Different, Refers, Invariant, Declaration}
 
@@ -59,3 +61,17 @@ pub record IsCycleOf (checks : List Check) (chain : List ℕ) : Type 0 where
   pub at : Option ℕ
   pub closed : IsChain checks at chain at
   pub below : sum_of checks chain <ℤ pos 0
+
+-- some row can meet the checks of each table
+abbrev pub AreSatisfiable : List Declaration → Type 0
+AreSatisfiable schema = (number : ℕ) (table : Declaration) → slice_get schema number ≡ Some table → IsSatisfiable table
+
+-- it stands at the name of the first table with checks that no row can meet, and has a cycle of them
+pub record IsUnmet (schema : List Declaration) (refusal : Refusal) : Type 0 where
+  pub number : ℕ
+  pub table : Declaration
+  pub stands : slice_get schema number ≡ Some table
+  pub cycle : List ℕ
+  pub closed : IsCycleOf (checks_of table) cycle
+  pub first : (other : ℕ) (before : Declaration) → other < number → slice_get schema other ≡ Some before → IsSatisfiable before
+  pub is : refusal ≡ record { spot = table.name.spot; code = Unsatisfiable number cycle }

@@ -1,20 +1,18 @@
 -- The phases put together, and what the limits say of each table.
-use Rattle.std.proofs.Common.{◌≡◌, ℕ, suc, zero, ◌<◌, ◌≤◌, Bool, true, false, List, [], ◌∷◌, length, get_or, arith, ◌∙◌, Option, Some, None, subst}
+use Rattle.std.proofs.Common.{◌≡◌, ℕ, suc, zero, ◌<◌, ◌≤◌, Bool, true, false, List, [], ◌∷◌, length, get_or, arith, sym, ◌∙◌, Some, subst}
 use Rattle.std.specs.List.{All, find}
-use Rattle.std.specs.Option.{MatchOption}
 use Rattle.std.specs.Prelude.{if◌then◌else◌}
-use Rattle.sv_app.specs.declared.refusals.Refusal.{Refusal}
 use Rattle.sv_app.specs.declared.schemas.Table.{Table}
 use Rattle.sv_app.specs.Accepted.{AcceptedApp}
-use Rattle.sv_app.specs.Acceptance.{IsAccepted, IsRefused, ByCycle}
+use Rattle.sv_app.specs.Acceptance.{IsAccepted}
 use Rattle.sv_app.specs.Conditions.{IsSmallTable, KeepsGrammar, KeepsLimits, AreNumbered}
 use Rattle.sv_app.specs.Numbers.{numbered}
-use Rattle.sv_app.specs.References.{IsOnCycle, IsCyclic}
 use Rattle.sv_app.specs.Schema.{Declaration, declaration_of, schema_of}
 use Rattle.sv_app.specs.Trees.{Transaction}
 use Rattle.sv_app.specs.TxnConditions.{KeepsTxnGrammar, KeepsTxnLimits}
 use Rattle.sv_app.specs.TxnNumbers.{numbered_txns}
-use Rattle.sv_app.specs.TxnTyping.{all_faults}
+use Rattle.sv_typing.specs.Systems.{AreNarrow}
+use Rattle.sv_typing.proofs.UnmetLaws.{are_narrow}
 use Rattle.sv_typing.proofs.NumberedSchema.{grammar_numbered, limits_numbered, invariants_numbered, faults_numbered, acyclic_numbered, numbered_twice}
 use Rattle.sv_typing.proofs.NumberedTxns.{txn_grammar_numbered, txn_limits_numbered, txns_faults_numbered, txns_numbered_twice}
 use Rattle.sv_typing.proofs.PlaceLaws.{schema_right, txns_right}
@@ -34,12 +32,9 @@ table_small [] k t h e each = absurd (omega (arith, h))
 table_small (x ∷ xs) zero t h e each = rw e (each 0 (declaration_of x) (omega arith)).columns
 table_small (x ∷ xs) (suc k) t h e each = table_small xs k t (omega (arith, h)) e (rest_small (declaration_of x) (schema_of xs) each)
 
--- where the names and types are right, the references decide
-pub cycles_decide : (schema : List Declaration) (txns : List Transaction) (o : Option Refusal) → all_faults schema txns ≡ []
-    → MatchOption o ((table : ℕ) → IsOnCycle schema table → ⊥) (λ refusal. IsCyclic schema refusal)
-    → MatchOption o (IsAccepted schema txns) (λ refusal. IsRefused schema txns refusal)
-cycles_decide schema txns None typed free = record { typed = typed; acyclic = free }
-cycles_decide schema txns (Some refusal) typed cyclic = ByCycle typed cyclic
+-- numbered tables of few columns have small numbers
+pub narrow_tables : (schema tables : List Declaration) → KeepsLimits schema → tables ≡ numbered schema → AreNarrow tables
+narrow_tables schema tables limits e = subst AreNarrow (sym e) (are_narrow schema limits)
 
 -- with its numbers, what is accepted is an accepted application
 pub accepted_app : (schema : List Declaration) (txns : List Transaction) → KeepsGrammar schema → KeepsLimits schema → AreNumbered schema → KeepsTxnGrammar txns → KeepsTxnLimits txns
@@ -51,6 +46,7 @@ accepted_app schema txns grammar limits invariants txn_grammar txn_limits accept
     invariants = invariants_numbered schema invariants;
     typed = faults_numbered schema ∙ schema_right schema txns accepted.typed;
     acyclic = acyclic_numbered schema accepted.acyclic;
+    satisfiable = accepted.satisfiable;
     names = numbered_twice schema;
   };
   grammar = txn_grammar_numbered schema txns txn_grammar;

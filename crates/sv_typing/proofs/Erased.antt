@@ -1,5 +1,5 @@
 -- Names without their numbers: all that is looked at in a schema before the names are numbered is told by names and places.
-use Rattle.std.proofs.Common.{◌≡◌, ℕ, zero, suc, Bool, true, false, List, [], ◌∷◌, ◌++◌, length, refl, sym, ap, ◌∙◌, map, Option, Some, None}
+use Rattle.std.proofs.Common.{◌≡◌, ℕ, suc, Bool, true, false, List, [], ◌∷◌, ◌++◌, length, refl, sym, ap, ◌∙◌, map, Option, Some, None}
 use Rattle.std.specs.Prelude.{if◌then◌else◌, ◌||◌, not, ◌==◌, nat_lt, slice_get}
 use Rattle.std.specs.List.{find, list_any, flat_map}
 use Rattle.std.specs.Option.{option_map, is_none}
@@ -7,39 +7,13 @@ use Rattle.std.proofs.lemmas.List.{length-map}
 use Rattle.std.proofs.lemmas.Option.{slice_get-map}
 use Rattle.sv_app.specs.declared.apps.Ident.{Ident}
 use Rattle.sv_app.specs.declared.refusals.Code.TheVariants.{Unknown, Twice, Typing}
-use Rattle.sv_app.specs.declared.refusals.Refusal.{Refusal}
 use Rattle.sv_app.specs.declared.schemas.Check.{Check}
 use Rattle.sv_app.specs.declared.schemas.Column.{Column}
 use Rattle.sv_app.specs.Firsts.{is_same_place}
 use Rattle.sv_app.specs.Lookups.{is_named, column_of, table_of, is_key, holds_of, place_of, table_names, column_names}
 use Rattle.sv_app.specs.References.{referred, refers}
 use Rattle.sv_app.specs.Schema.{Rule, Bound, OneOf, Different, Refers, Invariant, Declaration}
-use Rattle.sv_app.specs.Typing.{
-  fault_if,
-  repeats,
-  faults,
-  table_faults,
-  key_faults,
-  column_faults,
-  rule_faults,
-  no_column,
-  at_column,
-  another_key,
-  side_faults,
-  second_side,
-  shape_faults,
-  check_faults,
-  list_faults,
-  unique_faults,
-  differs,
-  referring_faults,
-  referred_faults,
-  target_faults,
-  is_text,
-  is_numdelta,
-  is_same_type,
-  is_merged_wrong,
-}
+use Rattle.sv_app.specs.Typing.{fault_if, repeats, faults, table_faults, key_faults, column_faults, rule_faults, no_column, at_column, another_key, side_faults, second_side, shape_faults, check_faults, differs, referring_faults, referred_faults, target_faults, is_numdelta, is_merged_wrong}
 use Rattle.sv_typing.proofs.NotedLaws.{flat_mapped}
 
 abbrev pub bare : Ident → Ident

@@ -1,24 +1,22 @@
 -- Transactions without the numbers of their names: all that is looked at before the names are numbered is told by names and places.
-use Rattle.std.proofs.Common.{◌≡◌, ℕ, zero, suc, Bool, true, false, List, [], ◌∷◌, ◌++◌, length, refl, sym, ap, ◌∙◌, map, reverse, Option, Some, None}
-use Rattle.std.specs.Prelude.{if◌then◌else◌, ◌||◌, ◌&&◌, not, ◌==◌}
+use Rattle.std.proofs.Common.{◌≡◌, List, [], ◌∷◌, ◌++◌, refl, sym, ap, ◌∙◌, map, reverse, Option, Some, None}
+use Rattle.std.specs.Prelude.{◌||◌, ◌&&◌, not, ◌==◌}
 use Rattle.std.specs.List.{find, flat_map}
 use Rattle.std.specs.Option.{option_map, option_and_then, is_none}
 use Rattle.std.proofs.lemmas.List.{length-map, map-append, reverse-append}
 use Rattle.sv_value.specs.declared.spots.Spot.{Spot}
-use Rattle.sv_app.specs.declared.acts.Act.{Act}
 use Rattle.sv_app.specs.declared.acts.Act.TheVariants as acts
 use Rattle.sv_app.specs.declared.apps.Ident.{Ident}
 use Rattle.sv_app.specs.declared.names.Declared.{Declared}
 use Rattle.sv_app.specs.declared.names.Known.{Known}
 use Rattle.sv_app.specs.declared.names.Meaning.{Meaning}
 use Rattle.sv_app.specs.declared.names.Meaning.TheVariants.{Parameter, Variable as Local, Row, Element}
-use Rattle.sv_app.specs.declared.refusals.Code.TheVariants.{Unknown, Twice, Kind, Typing}
+use Rattle.sv_app.specs.declared.refusals.Code.TheVariants.{Unknown, Typing}
 use Rattle.sv_app.specs.declared.refusals.Refusal.{Refusal}
 use Rattle.sv_app.specs.declared.schemas.Column.{Column}
 use Rattle.sv_app.specs.declared.schemas.Ty.{Ty}
-use Rattle.sv_app.specs.declared.schemas.Ty.TheVariants.{Int, Text, Ints}
 use Rattle.sv_app.specs.declared.txns.Rel.{Rel}
-use Rattle.sv_app.specs.Lookups.{is_named, column_of, table_of, is_key, holds_of, column_names}
+use Rattle.sv_app.specs.Lookups.{is_named, column_of, table_of, holds_of, column_names}
 use Rattle.sv_app.specs.Schema.{Declaration}
 use Rattle.sv_app.specs.Scopes.{Scope, meaning_of, knowing, updating, parameter, opening}
 use Rattle.sv_app.specs.Statements.{inner_statements, block_statements}
@@ -56,61 +54,10 @@ use Rattle.sv_app.specs.Trees.{
   Then,
   Transaction,
 }
-use Rattle.sv_app.specs.TxnNames.{plain_name, row_name, declared_by, declares, names_of}
-use Rattle.sv_app.specs.TxnTyping.{
-  value_faults,
-  no_column_of,
-  field_faults,
-  old_faults,
-  operand_faults,
-  term_faults,
-  is_order,
-  comparison_faults,
-  test_faults,
-  condition_faults,
-  all_term_faults,
-  no_table,
-  at_table,
-  kind_faults,
-  count_faults,
-  type_faults,
-  each_type_faults,
-  value_list_faults,
-  set_faults,
-  sets_faults,
-  assignment_faults,
-  is_list,
-  walk_faults,
-  type_if_right,
-  declared_type,
-  behind,
-  command_faults,
-  inner_faults,
-  block_faults,
-  txn_faults,
-  txns_faults,
-}
-use Rattle.sv_app.specs.Typing.{fault_if, is_text, repeats, no_column}
-use Rattle.sv_typing.proofs.Erased.{
-  bare,
-  bare_column,
-  bare_table,
-  bare_schema,
-  find_map,
-  holds_map,
-  map_map,
-  none_map,
-  column_bare,
-  table_bare,
-  key_bare,
-  columns_bare,
-  repeats_bare,
-  no_column_bare,
-  flat_bare,
-  meant_bare,
-  no_table_bare,
-  no_column_in,
-}
+use Rattle.sv_app.specs.TxnNames.{plain_name, declared_by, declares, names_of}
+use Rattle.sv_app.specs.TxnTyping.{value_faults, no_column_of, field_faults, old_faults, operand_faults, term_faults, is_order, comparison_faults, test_faults, condition_faults, all_term_faults, no_table, at_table, kind_faults, count_faults, type_faults, each_type_faults, value_list_faults, set_faults, sets_faults, assignment_faults, walk_faults, type_if_right, declared_type, behind, command_faults, inner_faults, block_faults, txn_faults, txns_faults}
+use Rattle.sv_app.specs.Typing.{fault_if, is_text, repeats}
+use Rattle.sv_typing.proofs.Erased.{bare, bare_column, bare_table, bare_schema, find_map, map_map, column_bare, table_bare, key_bare, columns_bare, repeats_bare, no_column_bare, flat_bare, meant_bare, no_table_bare, no_column_in}
 use Rattle.sv_typing.proofs.NumberedSchema.{map_same, option_same}
 
 abbrev pub bare_meaning : Meaning → Meaning

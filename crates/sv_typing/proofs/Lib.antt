@@ -1,4 +1,5 @@
 pub mod AcceptanceLaws
+pub mod NameLaws
 pub mod NotedLaws
 pub mod NumberedSchema
 pub mod NumberedTxns
@@ -11,4 +12,6 @@ pub mod FillLaws
 pub mod FirstLaws
 pub mod LookupLaws
 pub mod StatementLaws
+pub mod SystemLaws
+pub mod UnmetLaws
 pub mod ValueLaws

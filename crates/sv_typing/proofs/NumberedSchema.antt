@@ -1,21 +1,20 @@
 -- Numbering a schema changes numbers alone, and a second time nothing.
-use Rattle.std.proofs.Common.{◌≡◌, ◌≢◌, ℕ, zero, suc, ◌<◌, ◌≤◌, ◌+◌, arith, Bool, List, [], ◌∷◌, ◌++◌, length, refl, sym, ap, ◌∙◌, map, subst, Option, Some, None}
+use Rattle.std.proofs.Common.{◌≡◌, ◌≢◌, ℕ, suc, arith, Bool, List, [], ◌∷◌, ◌++◌, length, refl, sym, ap, ◌∙◌, map, subst, Option, Some, None}
 use Rattle.std.specs.Prelude.{IsTrue}
 use Rattle.std.specs.List.{All, flat_map}
 use Rattle.std.specs.Option.{option_map, unwrap_or}
 use Rattle.std.proofs.lemmas.List.{length-map, map-append}
 use Rattle.std.proofs.lemmas.List.Elements.{All-map}
 use Rattle.sv_app.specs.declared.apps.Ident.{Ident}
-use Rattle.sv_app.specs.declared.schemas.Check.{Check}
 use Rattle.sv_app.specs.declared.schemas.Column.{Column}
 use Rattle.sv_app.specs.declared.schemas.Ty.TheVariants.{Ints}
 use Rattle.sv_app.specs.Conditions.{KeepsRule, KeepsTable, KeepsGrammar, IsSmallRule, IsSmallTable, KeepsLimits, AreNumberedFrom, AreNumbered}
 use Rattle.sv_app.specs.Lookups.{table_of, table_names, column_names}
-use Rattle.sv_app.specs.Numbers.{numbered, numbered_in, numbered_column, numbered_check, numbered_rule, numbered_invariant, numbered_table, columns_meant}
+use Rattle.sv_app.specs.Numbers.{numbered, numbered_in, numbered_column, numbered_rule, numbered_invariant, numbered_table, columns_meant}
 use Rattle.sv_app.specs.References.{refers, Leads, Step, Further, IsOnCycle}
 use Rattle.sv_app.specs.Schema.{Rule, Bound, OneOf, Different, Refers, Invariant, Declaration}
 use Rattle.sv_app.specs.Typing.{faults}
-use Rattle.sv_typing.proofs.Erased.{bare, bare_column, bare_check, bare_rule, bare_invariant, bare_table, bare_schema, map_map, place_bare, tables_bare, columns_bare, table_bare, faults_bare, refers_bare}
+use Rattle.sv_typing.proofs.Erased.{bare, bare_column, bare_rule, bare_invariant, bare_table, bare_schema, place_bare, tables_bare, columns_bare, table_bare, faults_bare, refers_bare}
 
 pub map_same : {A B C : Type 0} (f : A → B) (g : B → C) (h : A → C) (xs : List A) → ((x : A) → g (f x) ≡ h x) → map g (map f xs) ≡ map h xs
 map_same f g h [] same = refl

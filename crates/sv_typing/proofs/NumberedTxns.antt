@@ -6,7 +6,6 @@ use Rattle.std.specs.Option.{option_map, option_and_then}
 use Rattle.std.proofs.lemmas.List.{length-map, map-append}
 use Rattle.sv_app.specs.declared.apps.Ident.{Ident}
 use Rattle.sv_app.specs.declared.names.Declared.{Declared}
-use Rattle.sv_app.specs.declared.schemas.Ty.{Ty}
 use Rattle.sv_app.specs.Depths.{term_depth, test_depth, depths, inner_depth, block_depth}
 use Rattle.sv_app.specs.Lookups.{is_named}
 use Rattle.sv_app.specs.Numbers.{numbered, numbered_in}
@@ -46,7 +45,6 @@ use Rattle.sv_app.specs.Trees.{
   Transaction,
 }
 use Rattle.sv_app.specs.TxnConditions.{is_loop, is_declaration, loops_of, IsKey, KeepsStatement, KeepsTxnGrammar, IsSmallTxn, KeepsTxnLimits}
-use Rattle.sv_app.specs.TxnNames.{declares}
 use Rattle.sv_app.specs.TxnNumbers.{
   Naming,
   columns_of,

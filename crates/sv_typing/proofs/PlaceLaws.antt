@@ -10,17 +10,19 @@ use Rattle.sv_app.specs.declared.refusals.Code.{Code}
 use Rattle.sv_app.specs.declared.refusals.Code.TheVariants.{Twice, Cyclic}
 use Rattle.sv_app.specs.declared.refusals.Refusal.{Refusal}
 use Rattle.sv_app.specs.declared.schemas.Column.{Column}
-use Rattle.sv_app.specs.Acceptance.{IsAccepted, IsRefused, ByTyping, ByCycle}
+use Rattle.sv_app.specs.Acceptance.{IsAccepted, IsRefused, ByTyping, ByCycle, ByChecks}
 use Rattle.sv_app.specs.Codes.{number_of}
 use Rattle.sv_app.specs.Firsts.{IsFirst}
 use Rattle.sv_app.specs.References.{IsCyclic}
+use Rattle.sv_app.specs.Satisfiable.{IsUnmet}
 use Rattle.sv_typing.proofs.FirstLaws.{first_is_one}
+use Rattle.sv_typing.proofs.SystemLaws.{unmet}
 use Rattle.std.proofs.lemmas.Bool.Decides.{nat_tests}
 use Rattle.sv_app.specs.Lookups.{is_named, place_of, table_names, column_names}
 use Rattle.sv_app.specs.Numbers.{numbered, numbered_in, numbered_table, numbered_column}
 use Rattle.sv_app.specs.Schema.{Declaration}
 use Rattle.sv_app.specs.Trees.{Transaction}
-use Rattle.sv_app.specs.TxnTyping.{all_faults, txn_faults, txns_faults}
+use Rattle.sv_app.specs.TxnTyping.{all_faults, txns_faults}
 use Rattle.sv_app.specs.Typing.{fault_if, repeats, faults, table_faults, key_faults, column_faults, rule_faults}
 
 pub left_none : {A : Type 0} (a b : List A) → a ++ b ≡ [] → a ≡ []
@@ -31,7 +33,7 @@ pub right_none : {A : Type 0} (a b : List A) → a ++ b ≡ [] → b ≡ []
 right_none [] b e = e
 right_none (x ∷ a) b e = absurd cc
 
-each_none : {T A : Type 0} (f : T → List A) (xs : List T) (k : ℕ) (x : T) → flat_map f xs ≡ [] → slice_get xs k ≡ Some x → f x ≡ []
+pub each_none : {T A : Type 0} (f : T → List A) (xs : List T) (k : ℕ) (x : T) → flat_map f xs ≡ [] → slice_get xs k ≡ Some x → f x ≡ []
 each_none f [] k x e s = absurd cc
 each_none f (y ∷ ys) zero x e s = let same : y ≡ x = cc in subst (λ z. f z ≡ []) same (left_none (f y) (flat_map f ys) e)
 each_none f (y ∷ ys) (suc k) x e s = each_none f ys k x (right_none (f y) (flat_map f ys) e) s
@@ -54,15 +56,15 @@ place_own (y ∷ ys) (suc k) x e s =
     rw (other, rest) refl
 
 -- what stands at a place of a list that is mapped
-mapped_at : {A B : Type 0} (f : A → B) (xs : List A) (k : ℕ) (y : B) → slice_get (map f xs) k ≡ Some y → (x : A) × (slice_get xs k ≡ Some x) × (f x ≡ y)
+pub mapped_at : {A B : Type 0} (f : A → B) (xs : List A) (k : ℕ) (y : B) → slice_get (map f xs) k ≡ Some y → (x : A) × (slice_get xs k ≡ Some x) × (f x ≡ y)
 mapped_at f [] k y e = absurd cc
 mapped_at f (x ∷ xs) zero y e = let same : f x ≡ y = cc in (x, refl, same)
 mapped_at f (x ∷ xs) (suc k) y e = mapped_at f xs k y e
 
-map_at : {A B : Type 0} (f : A → B) (xs : List A) (k : ℕ) (x : A) → slice_get xs k ≡ Some x → slice_get (map f xs) k ≡ Some (f x)
+pub map_at : {A B : Type 0} (f : A → B) (xs : List A) (k : ℕ) (x : A) → slice_get xs k ≡ Some x → slice_get (map f xs) k ≡ Some (f x)
 map_at f xs k x s = slice_get-map f xs k ∙ ap (λ o. option_map f o) s
 
-own_number : (names : List Ident) (k : ℕ) (x : Ident) → repeats names ≡ [] → slice_get names k ≡ Some x → (numbered_in names x).num ≡ k
+pub own_number : (names : List Ident) (k : ℕ) (x : Ident) → repeats names ≡ [] → slice_get names k ≡ Some x → (numbered_in names x).num ≡ k
 own_number names k x e s = ap (λ o. unwrap_or o 0) (place_own names k x e s)
 
 -- nothing is wrong in the schema where nothing is wrong at all
@@ -103,6 +105,7 @@ none_first (x ∷ xs) refusal e first = cc
 pub never_both : (schema : List Declaration) (txns : List Transaction) (refusal : Refusal) → IsAccepted schema txns → IsRefused schema txns refusal → ⊥
 never_both schema txns refusal accepted (ByTyping first) = none_first (all_faults schema txns) refusal accepted.typed first
 never_both schema txns refusal accepted (ByCycle typed cycle) = accepted.acyclic cycle.number cycle.cyclic
+never_both schema txns refusal accepted (ByChecks typed free checks) = unmet checks.table checks.cycle (accepted.satisfiable checks.number checks.table checks.stands) checks.closed
 
 cyclic_once : (schema : List Declaration) (a b : Refusal) (p : IsCyclic schema a) (q : IsCyclic schema b) → p.number ≡ q.number → a ≡ b
 cyclic_once schema a b p q same =
@@ -120,6 +123,19 @@ same_number m n p q = same_by (nat_lt m n) (nat_lt n m) refl refl where
 cycle_is_one : (schema : List Declaration) (a b : Refusal) → IsCyclic schema a → IsCyclic schema b → a ≡ b
 cycle_is_one schema a b p q = cyclic_once schema a b p q (same_number p.number q.number (λ less. q.first p.number less p.cyclic) (λ less. p.first q.number less q.cyclic))
 
+unmet_number : (schema : List Declaration) (a b : Refusal) (p : IsUnmet schema a) (q : IsUnmet schema b) → p.number ≡ q.number
+unmet_number schema a b p q =
+    same_number p.number q.number (λ less. unmet p.table p.cycle (q.first p.number p.table less p.stands) p.closed) (λ less. unmet q.table q.cycle (p.first q.number q.table less q.stands) q.closed)
+
+unmet_once : (schema : List Declaration) (a b : Refusal) → IsUnmet schema a → IsUnmet schema b
+    → (a.spot.line ≡ b.spot.line) × (a.spot.col ≡ b.spot.col) × (number_of a.code ≡ number_of b.code)
+unmet_once schema a b p q =
+    let stands : slice_get schema p.number ≡ Some q.table = ap (slice_get schema) (unmet_number schema a b p q) ∙ q.stands in
+    let both : Some p.table ≡ Some q.table = sym p.stands ∙ stands in
+    let tables : p.table ≡ q.table = cc in
+    let spots : a.spot ≡ b.spot = ap (λ (r : Refusal). r.spot) p.is ∙ ap (λ (t : Declaration). t.name.spot) tables ∙ sym (ap (λ (r : Refusal). r.spot) q.is) in
+    (ap (λ (s : Spot). s.line) spots, ap (λ (s : Spot). s.col) spots, ap (λ (r : Refusal). number_of r.code) p.is ∙ sym (ap (λ (r : Refusal). number_of r.code) q.is))
+
 pub refused_once : (schema : List Declaration) (txns : List Transaction) (a b : Refusal) → IsRefused schema txns a → IsRefused schema txns b
     → (a.spot.line ≡ b.spot.line) × (a.spot.col ≡ b.spot.col) × (number_of a.code ≡ number_of b.code)
 refused_once schema txns a b (ByTyping f) (ByTyping g) = first_is_one (all_faults schema txns) a b f g
@@ -128,3 +144,8 @@ refused_once schema txns a b (ByCycle typed p) (ByTyping g) = absurd (none_first
 refused_once schema txns a b (ByCycle typed p) (ByCycle more q) =
     let same : a ≡ b = cycle_is_one schema a b p q in
     (ap (λ (r : Refusal). r.spot.line) same, ap (λ (r : Refusal). r.spot.col) same, ap (λ (r : Refusal). number_of r.code) same)
+refused_once schema txns a b (ByTyping f) (ByChecks typed free q) = absurd (none_first (all_faults schema txns) a typed f)
+refused_once schema txns a b (ByChecks typed free p) (ByTyping g) = absurd (none_first (all_faults schema txns) b typed g)
+refused_once schema txns a b (ByCycle typed p) (ByChecks more free q) = absurd (free p.number p.cyclic)
+refused_once schema txns a b (ByChecks typed free p) (ByCycle more q) = absurd (free q.number q.cyclic)
+refused_once schema txns a b (ByChecks typed free p) (ByChecks more free' q) = unmet_once (numbered schema) a b p q

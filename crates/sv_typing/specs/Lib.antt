@@ -2,3 +2,4 @@ pub mod Laws
 pub mod Noted
 pub mod Reached
 pub mod Standing
+pub mod Systems

@@ -1,4 +1,4 @@
-ghost use Rattle.std.specs.Prelude.{◌≡◌, IfOk, MatchOption, Err};
+ghost use Rattle.std.specs.Prelude.{◌≡◌, [], List, IfOk, MatchOption, Err};
 ghost use Rattle.sv_app.specs.declared.refusals.Refusal.{Refusal as RefusalValue};
 ghost use Rattle.sv_app.specs.declared.refusals.Stop.TheVariants.{Refused};
 ghost use Rattle.sv_app.specs.Accepted.{AcceptedApp};
@@ -6,10 +6,12 @@ ghost use Rattle.sv_app.specs.Acceptance.{IsAccepted, IsRefused};
 ghost use Rattle.sv_app.specs.Conditions.{KeepsGrammar, KeepsLimits, AreNumbered};
 ghost use Rattle.sv_app.specs.Numbers.{numbered};
 ghost use Rattle.sv_app.specs.Schema.{schema_of};
-ghost use Rattle.sv_app.specs.Trees.{transactions_of};
+ghost use Rattle.sv_app.specs.Trees.{Transaction, transactions_of};
 ghost use Rattle.sv_app.specs.TxnConditions.{KeepsTxnGrammar, KeepsTxnLimits};
 ghost use Rattle.sv_app.specs.TxnNumbers.{numbered_txns};
+ghost use Rattle.sv_app.specs.TxnTyping.{all_faults};
 
+use crate::checks::first_unmet;
 use crate::cycles::first_cycle;
 use crate::faults::first_fault;
 use crate::numbers::number_all;
@@ -17,6 +19,23 @@ use crate::txn_numbers::number_txns;
 use std::alloc::Global;
 use sv_app::{App, Refusal, Stop, Table, Txn};
 use sv_value::NoMemory;
+
+/// The refusal of tables whose names and types are right: references come before checks.
+fn later_refusal(alloc: Global, tables: &[Table]) -> Result<Option<Refusal>, NoMemory>
+    requires { KeepsLimits (schema_of tables.now) }
+    ensures { IfOk result (λ found. (txns : List Transaction) → all_faults (schema_of tables.now) txns ≡ []
+        → MatchOption found (IsAccepted (schema_of tables.now) txns) (λ refusal. IsRefused (schema_of tables.now) txns refusal)) }
+{
+    let cycle = first_cycle(tables);
+    match cycle {
+        Some(refusal) => Ok(Some(refusal)),
+        None => {
+            let numbered_tables = number_all(alloc, tables)?;
+            let unmet = first_unmet(alloc, &numbered_tables)?;
+            Ok(unmet)
+        }
+    }
+}
 
 /// The refusal that the tables and transactions get, if they aren't accepted.
 fn first_refusal(alloc: Global, tables: &[Table], txns: &[Txn]) -> Result<Option<Refusal>, NoMemory>
@@ -26,7 +45,10 @@ fn first_refusal(alloc: Global, tables: &[Table], txns: &[Txn]) -> Result<Option
     let fault = first_fault(alloc, tables, txns)?;
     match fault {
         Some(refusal) => Ok(Some(refusal)),
-        None => Ok(first_cycle(tables)),
+        None => {
+            let later = later_refusal(alloc, tables)?;
+            Ok(later)
+        }
     }
 }
 
@@ -52,8 +74,8 @@ fn number_app(alloc: Global, tables: &[Table], txns: &[Txn]) -> Result<App, NoMe
 
 /// The application of these tables and transactions, with the numbers of all names filled in.
 ///
-/// Where names or types are wrong the first refusal is answered, and where they are right and references form a cycle that
-/// of the first table on one.
+/// Where names or types are wrong the first refusal is answered; else, where references form a cycle, that of the first
+/// table on one; else, where no row can meet the checks of a table, that of the first such table.
 pub fn accept(alloc: Global, tables: Vec<Table>, txns: Vec<Txn>) -> Result<App, Stop>
     requires grammar { KeepsGrammar (schema_of tables.items) }
     requires limits { KeepsLimits (schema_of tables.items) }

@@ -14,14 +14,24 @@ pub fn columns_by_place()
     ensures { ColumnsByPlace }
 {}
 
+/// In an accepted application the number of a transaction is its place.
+#[tactic(auto, using(crate::proofs::NameLaws::txns_by_place))]
+pub fn txns_by_place()
+    ensures { TxnsByPlace }
+{}
+
+/// In an accepted application the number of a name that a transaction declares is its place among these.
+#[tactic(auto, using(crate::proofs::NameLaws::names_by_place))]
+pub fn names_by_place()
+    ensures { NamesByPlace }
+{}
+
 /// What is accepted isn't refused.
-#[tactic(auto, using(crate::proofs::PlaceLaws::never_both))]
 pub fn never_both()
     ensures { NeverBoth }
 {}
 
-/// A schema gets one refusal.
-#[tactic(auto, using(crate::proofs::PlaceLaws::refused_once))]
+/// An application gets one refusal.
 pub fn refused_once()
     ensures { RefusedOnce }
 {}

@@ -3,6 +3,7 @@
 
 mod acceptance;
 mod changes;
+mod checks;
 mod columns;
 mod copies;
 mod cycles;
@@ -30,4 +31,6 @@ mod types;
 mod values;
 
 pub use acceptance::accept;
-pub use laws::{columns_by_place, never_both, refused_once, tables_by_place};
+pub use laws::{
+    columns_by_place, names_by_place, never_both, refused_once, tables_by_place, txns_by_place,
+};

@@ -1,5 +1,3 @@
-use Rattle.std.proofs.Common.{ap, length, List}
-use Rattle.sv_app.specs.declared.schemas.Column.{Column}
 use Rattle.sv_app.specs.Lookups.{is_named}
 use Rattle.sv_app.specs.Schema.{Declaration, declaration_of, schema_of}
 use Rattle.sv_typing.proofs.AcceptanceLaws.{found_small}

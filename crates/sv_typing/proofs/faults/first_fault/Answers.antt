@@ -1,4 +1,4 @@
-use Rattle.std.proofs.Common.{refl, sym}
+use Rattle.std.proofs.Common.{refl}
 use Rattle.sv_typing.proofs.LookupLaws.{names_declared}
 use Rattle.sv_typing.proofs.NotedLaws.{noted_append}
 use Rattle.sv_typing.proofs.faults.first_fault.Goals as goal
