@@ -62,13 +62,27 @@ let_rest n l = setting_at l >>= λ s r2. kind_at (Mark marks.Semi) r2 >>= λ _ r
 pub let_law : (clash : List Token → Bool) (n : Counts) → Law places clash (Made (let_of n) (λ i x. word (codes "let") · limit i 32 (suc n.variables) · SetWords i x)) (let_at n)
 unfolding let_at let_rest setting_at
 let_law clash n = skip (Name (codes "let")) (let_of n) (limited_made 32 n.variables (let_of n)
-    (limited_law is_name 32 n.variables (next_alike (λ token. is_some (name_of token))) refl rest_law (λ i a l r m. set_first i m.«from» l r m.is) misplaced begins))
+    (read_law same (limited_law is_name 32 n.variables (next_alike (λ token. is_some (name_of token))) refl rest_law (λ i a l r m. set_first i m.«from» l r m.is) misplaced begins)))
   where
     rest_law : Law places clash (Made (let_of n) SetWords) (let_rest n)
     rest_law = take (λ (s : Ident × Term) (_ : Unit {0}). let_of n (s, tt)) setting_law (λ s. skip_last places clash (Mark marks.Semi) (let_of n (s, tt))) (λ i a t l r is clear. semi_adds l r is)
 
     misplaced : (l : List Token) → is_name l ≡ false → let_rest n l ≡ refuse Syntax l
     misplaced l e = ap (λ (x : Read Ident). (x >>= λ x r1. kind_at (Mark marks.Eq) r1 >>= λ _ r2. expr_at r2 >>= λ e r3. Ok ((x, e), r3)) >>= λ s r2. kind_at (Mark marks.Semi) r2 >>= λ _ r3. Ok (let_of n (s, tt), r3)) (name_misplaced l e)
+
+    asked : Bool → Bool → List Token → Read Counted
+    asked b c l = if b && c then refuse Many l else let_rest n l
+
+    direct : Bool → Bool → List Token → Read Counted
+    direct b c l = if b then (if c then refuse Many l else let_rest n l) else refuse Syntax l
+
+    same : (l : List Token) → direct (is_name l) (nat_le 32 n.variables) l ≡ asked (is_name l) (nat_le 32 n.variables) l
+    same l = by_tests (is_name l) (nat_le 32 n.variables) refl
+      where
+        by_tests : (b c : Bool) → is_name l ≡ b → direct b c l ≡ asked b c l
+        by_tests true true t = refl
+        by_tests true false t = refl
+        by_tests false c t = sym (misplaced l t)
 
     begins : (token : Token) (others : List Token) → is_name (token ∷ others) ≡ true → Goes token (let_rest n (token ∷ []))
     begins token others t = Short (ap (λ (x : Read Ident). (x >>= λ x r1. kind_at (Mark marks.Eq) r1 >>= λ _ r2. expr_at r2 >>= λ e r3. Ok ((x, e), r3)) >>= λ s r2. kind_at (Mark marks.Semi) r2 >>= λ _ r3. Ok (let_of n (s, tt), r3)) (name_read token [] t).1)

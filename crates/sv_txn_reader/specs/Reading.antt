@@ -281,8 +281,8 @@ Blocks = Bool → Counts → List Token → Read Several
 
 unfoldable pub let_at : Counts → List Token → Read Counted
 let_at n tokens =
-    kind_at (Name (codes "let")) tokens >>= λ _ r1. if is_name r1 && nat_le 32 n.variables then refuse Many r1
-    else (setting_at r1 >>= λ s r2. kind_at (Mark marks.Semi) r2 >>= λ _ r3. Ok ((trees.Declare s.0 s.1, plus n (counts 0 0 1)), r3))
+    kind_at (Name (codes "let")) tokens >>= λ _ r1. if is_name r1 then (if nat_le 32 n.variables then refuse Many r1
+    else (setting_at r1 >>= λ s r2. kind_at (Mark marks.Semi) r2 >>= λ _ r3. Ok ((trees.Declare s.0 s.1, plus n (counts 0 0 1)), r3))) else refuse Syntax r1
 
 unfoldable pub assign_at : List Token → Read Command
 assign_at tokens = setting_at tokens >>= λ s r1. kind_at (Mark marks.Semi) r1 >>= λ _ r2. Ok (trees.Assign s.0 s.1, r2)
