@@ -1,15 +1,15 @@
 -- Reading blocks where some may nest, and one statement more.
-use Rattle.std.proofs.Common.{◌≡◌, ◌∙◌, ℕ, zero, suc, ◌+◌, ◌<◌, ◌≤◌, ◌-◌, Bool, true, false, if◌then◌else◌, nat_eq, List, length, Ok, Err, refl, sym, ap, subst, arith}
+use Rattle.std.proofs.Common.{◌≡◌, ℕ, zero, suc, ◌<◌, ◌≤◌, ◌-◌, Bool, true, false, if◌then◌else◌, List, length, Ok, Err, refl, ap, arith}
 use Rattle.sv_lex.specs.declared.marks.Mark.TheVariants as marks
 use Rattle.sv_lex.specs.declared.tokens.Token.{Token}
 use Rattle.sv_lex.specs.declared.tokens.TokenKind.TheVariants.{Mark}
 use Rattle.sv_app.specs.declared.refusals.Code.TheVariants.{Syntax, Many}
 use Rattle.sv_schema_reader.specs.declared.faults.Fault.{Fault}
-use Rattle.sv_schema_reader.specs.Reading.{Read, refuse, is_next, turns_at}
+use Rattle.sv_schema_reader.specs.Reading.{refuse, is_next, turns_at}
 use Rattle.sv_txn_reader.specs.declared.counts.Counts.{Counts}
 use Rattle.sv_txn_reader.specs.Reading.{Several, keep, goes_on, statement_step, inside_at, braces_at, block_at}
 use Rattle.sv_txn_reader.proofs.BlockLaws.{statement_turning, block_law}
-use Rattle.sv_txn_reader.proofs.PieceLaws.{Turning, shorter, turn_read, turn_err, turn_end}
+use Rattle.sv_txn_reader.proofs.PieceLaws.{shorter, turn_read, turn_err, turn_end}
 
 pub block_none : (room : ℕ) (looped : Bool) (n : Counts) (tokens : List Token) → room ≡ 0 → block_at room looped n tokens ≡ (if is_next (Mark marks.LeftBrace) tokens then refuse Many tokens else refuse Syntax tokens)
 unfolding block_at

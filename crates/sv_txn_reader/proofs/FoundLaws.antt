@@ -1,5 +1,5 @@
 -- Reading equals the grammar: what is read is in it, what is in it is read, and where it is refused.
-use Rattle.std.proofs.Common.{◌≡◌, ◌∙◌, ℕ, suc, ◌+◌, ◌-◌, ◌≤◌, ◌⊎◌, inl, inr, Bool, true, false, List, [], ◌∷◌, ◌++◌, length, drop, Ok, Err, refl, sym, ap, subst, arith, append_assoc, append-nil, codes}
+use Rattle.std.proofs.Common.{◌≡◌, ◌∙◌, ℕ, ◌+◌, ◌-◌, ◌≤◌, inl, inr, Bool, true, false, List, [], ◌∷◌, ◌++◌, length, drop, Ok, Err, refl, sym, ap, subst, arith, append_assoc, append-nil, codes}
 use Rattle.std.proofs.lemmas.List.{length-append, length-drop, drop-drop}
 use Rattle.std.proofs.Math.Seq.{drop-append_seam}
 use Rattle.sv_value.specs.declared.spots.Spot.{Spot}
@@ -7,7 +7,6 @@ use Rattle.sv_lex.specs.declared.tokens.Token.{Token}
 use Rattle.sv_lex.specs.declared.tokens.TokenKind.TheVariants.{Name}
 use Rattle.sv_app.specs.declared.refusals.Code.{Code}
 use Rattle.sv_app.specs.declared.refusals.Code.TheVariants.{Syntax, Many}
-use Rattle.sv_app.specs.declared.refusals.Refusal.{Refusal}
 use Rattle.sv_app.specs.Trees.{Transaction}
 use Rattle.sv_schema_reader.specs.declared.faults.Fault.{Fault}
 use Rattle.sv_schema_reader.specs.Reading.{Read, refuse}
@@ -15,9 +14,9 @@ use Rattle.sv_schema_reader.specs.Refused.{spot_of}
 use Rattle.sv_schema_reader.proofs.KindLaws.{kind_is, kind_same}
 use Rattle.sv_txn_reader.specs.Grammar.{transactions}
 use Rattle.sv_txn_reader.specs.Reading.{begins_txn, txns_at, IsLeft}
-use Rattle.sv_txn_reader.specs.Refused.{Begins, BeginsWithin, IsMisplaced, IsTooMany, IsRefused, BeginsTxn, AreRead}
-use Rattle.sv_txn_reader.proofs.Laws.{Alike, alike_same, Opens, Passes, Took, Stuck, Cause, Misplaced, TooMany, Exceeds, Reads, Same, same_read}
-use Rattle.sv_txn_reader.proofs.LimitLaws.{places, many_syntax}
+use Rattle.sv_txn_reader.specs.Refused.{Begins, BeginsWithin, IsRefused, BeginsTxn, AreRead}
+use Rattle.sv_txn_reader.proofs.Laws.{Alike, alike_same, Opens, Passes, Stuck, Cause, Misplaced, TooMany, Reads, same_read}
+use Rattle.sv_txn_reader.proofs.LimitLaws.{places}
 use Rattle.sv_txn_reader.proofs.TxnLaws.{txns_law, txns_stop}
 
 abbrev All : ℕ → List Transaction → List Token → List Token → Type 0

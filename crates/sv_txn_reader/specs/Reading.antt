@@ -1,5 +1,5 @@
 -- Reading transactions from left to right: what some tokens begin with, and the tokens behind it.
-use Rattle.std.specs.Prelude.{◌≡◌, ℕ, zero, suc, ◌-◌, ℤ, pos, max, Bool, true, false, not, ◌&&◌, ◌||◌, if◌then◌else◌, nat_le, nat_lt, List, [], ◌∷◌, ◌++◌, length, Option, Some, None, Result, Ok, Err, bytes_eq, codes}
+use Rattle.std.specs.Prelude.{◌≡◌, ℕ, zero, suc, ℤ, pos, max, Bool, true, false, not, ◌&&◌, ◌||◌, if◌then◌else◌, nat_le, nat_lt, List, [], ◌∷◌, ◌++◌, length, Option, Some, None, Ok, Err, bytes_eq, codes}
 use Rattle.sv_value.specs.declared.spots.Spot.{Spot}
 use Rattle.sv_lex.specs.declared.marks.Mark.{Mark as IsMark}
 use Rattle.sv_lex.specs.declared.marks.Mark.TheVariants as marks
@@ -15,7 +15,7 @@ use Rattle.sv_app.specs.declared.txns.Rel.TheVariants as rels
 use Rattle.sv_app.specs.Trees.{Term, Test, Command, Block, Transaction, block_from}
 use Rattle.sv_app.specs.Trees as trees
 use Rattle.sv_app.specs.Words.{is_reserved}
-use Rattle.sv_schema_reader.specs.Reading.{Read, ◌>>=◌, refuse, given, is_next, is_kind, next, is_some, kind_at, name_at, is_name, token_at, turns_at, by_word}
+use Rattle.sv_schema_reader.specs.Reading.{Read, ◌>>=◌, refuse, given, is_next, is_kind, next, kind_at, name_at, is_name, token_at, turns_at, by_word}
 use Rattle.sv_txn_reader.specs.declared.counts.Counts.{Counts}
 use Rattle.sv_txn_reader.specs.declared.heads.Head.{Head}
 use Rattle.sv_txn_reader.specs.declared.heads.Head.TheVariants as heads

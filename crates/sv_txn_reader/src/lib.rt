@@ -16,3 +16,6 @@ mod values;
 
 pub use counts::Counts;
 pub use reading::read_txns;
+
+#[cfg(test)]
+mod tests;

@@ -7,7 +7,7 @@ ghost use Rattle.std.specs.Option.{option_map};
 use crate::conditions::cond;
 use crate::counts::Counts;
 use crate::terms::expr;
-use crate::values::{index, setting, sets, values};
+use crate::values::{index, sets, setting, values};
 use std::alloc::Global;
 use sv_app::{Cond, Stmt};
 use sv_lex::{Mark, Token, TokenKind};

@@ -6,7 +6,7 @@ ghost use Rattle.sv_txn_reader.specs.Reading.{keep, type_named, param_at, item_s
 use crate::blocks::block;
 use crate::counts::Counts;
 use std::alloc::Global;
-use sv_app::{Ident, Ty, Txn};
+use sv_app::{Ident, Txn, Ty};
 use sv_lex::{Mark, Token, TokenKind};
 use sv_schema_reader::{Halt, Reader};
 

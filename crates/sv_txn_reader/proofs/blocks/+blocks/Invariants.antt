@@ -1,4 +1,4 @@
-use Rattle.std.proofs.Common.{◌≡◌, ◌≤◌, ◌*◌, ◌+◌, length, map}
+use Rattle.std.proofs.Common.{◌≡◌, ◌*◌, ◌+◌, length, map}
 use Rattle.sv_app.specs.Trees.{command_of}
 use Rattle.sv_schema_reader.specs.Reading.{turns_at}
 use Rattle.sv_txn_reader.specs.Reading.{keep, goes_on, statement_step, block_at}
