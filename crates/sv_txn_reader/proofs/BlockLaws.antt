@@ -1,27 +1,26 @@
 -- Blocks.
-use Rattle.std.proofs.Common.{◌≡◌, ◌∙◌, ℕ, zero, suc, ◌+◌, ◌<◌, ◌≤◌, ◌⊎◌, inl, inr, Bool, true, false, not, ◌&&◌, ◌||◌, if◌then◌else◌, nat_le, List, [], ◌∷◌, ◌++◌, length, Option, Some, None, Ok, Err, refl, sym, ap, subst, codes, arith, cond, append_assoc, append-nil}
-use Rattle.sv_value.specs.declared.spots.Spot.{Spot}
+use Rattle.std.proofs.Common.{◌≡◌, ◌∙◌, ℕ, zero, suc, ◌+◌, ◌≤◌, ◌⊎◌, inl, inr, Bool, true, false, not, ◌&&◌, ◌||◌, if◌then◌else◌, nat_le, List, [], ◌∷◌, ◌++◌, length, Option, Some, None, Ok, Err, refl, sym, ap, subst, codes, arith, cond, append_assoc, append-nil}
 use Rattle.sv_lex.specs.declared.marks.Mark.TheVariants as marks
 use Rattle.sv_lex.specs.declared.tokens.Token.{Token}
 use Rattle.sv_lex.specs.declared.tokens.TokenKind.{TokenKind}
-use Rattle.sv_lex.specs.declared.tokens.TokenKind.TheVariants.{Name, Number, Text, Mark}
+use Rattle.sv_lex.specs.declared.tokens.TokenKind.TheVariants.{Name, Mark}
 use Rattle.sv_app.specs.declared.apps.Ident.{Ident}
 use Rattle.sv_app.specs.declared.refusals.Code.TheVariants.{Syntax, Many}
 use Rattle.sv_app.specs.Trees.{Term, Command, Block, Finish, block_from}
 use Rattle.sv_app.specs.Trees as trees
 use Rattle.sv_app.specs.Words.{is_reserved}
 use Rattle.sv_schema_reader.specs.declared.faults.Fault.{Fault}
-use Rattle.sv_schema_reader.specs.Reading.{Read, ◌>>=◌, refuse, by_word, next, is_kind, is_next, is_some, ident_of, given, name_of, is_name, name_at, kind_at, found_at, token_at, turns_at}
+use Rattle.sv_schema_reader.specs.Reading.{Read, ◌>>=◌, refuse, by_word, next, is_kind, is_next, given, kind_at, found_at}
 use Rattle.sv_schema_reader.proofs.KindLaws.{kind_is, token_of}
 use Rattle.sv_txn_reader.specs.declared.counts.Counts.{Counts}
 use Rattle.sv_txn_reader.specs.declared.heads.Head.{Head}
 use Rattle.sv_txn_reader.specs.declared.heads.Head.TheVariants as heads
-use Rattle.sv_txn_reader.specs.Grammar.{Pair, ◌·◌, kind, mark, limit, command, statements, braced}
-use Rattle.sv_txn_reader.specs.Reading.{head_named, Counted, Several, Blocks, keep, head_at, may_begin, with_head, with_counts, let_at, assign_at, get_at, if_at, for_at, each_at, insert_at, update_at, remove_at, abort_at, reply_at, setting_at, cond_at, expr_at, is_large, literal_at, disjunctions_with, conjunctions_with, literal_with, comparison_at, factor_at, sums_with, products_with, factor_with, leaf_at, statement_step, goes_on, inside_at, braces_at, block_at}
-use Rattle.sv_txn_reader.specs.Standing.{Standing, counts, plus, command_counts, block_counts}
+use Rattle.sv_txn_reader.specs.Grammar.{◌·◌, mark, command, statements}
+use Rattle.sv_txn_reader.specs.Reading.{head_named, Counted, Several, Blocks, head_at, may_begin, with_head, with_counts, let_at, assign_at, get_at, if_at, for_at, each_at, insert_at, update_at, remove_at, abort_at, reply_at, setting_at, cond_at, expr_at, literal_at, disjunctions_with, conjunctions_with, literal_with, comparison_at, factor_at, sums_with, products_with, factor_with, leaf_at, statement_step, goes_on, inside_at, braces_at, block_at}
+use Rattle.sv_txn_reader.specs.Standing.{counts, plus, command_counts, block_counts}
 use Rattle.sv_txn_reader.proofs.CommandLaws.{standing, one, plus_zero, plus_assoc, Blk, BlocksLaw, block_first, is_else, Cmd, branch, cmd_at, starts, starts_alike, misplaced, by_head, cmd_law, cmd_starts}
-use Rattle.sv_txn_reader.proofs.HeadLaws.{HeadWord, head_token, kind_read, name_read}
-use Rattle.sv_txn_reader.proofs.Laws.{Mode, Alike, Opens, Passes, Took, Stuck, Misplaced, TooMany, Exceeds, Reads, Law, map_law, read_law, anything, then_ok}
+use Rattle.sv_txn_reader.proofs.HeadLaws.{head_token}
+use Rattle.sv_txn_reader.proofs.Laws.{Opens, Passes, Took, Stuck, Misplaced, TooMany, Reads, Law, map_law, read_law, anything}
 use Rattle.sv_txn_reader.proofs.LimitLaws.{places, Limited, limited_law, Goes, Short, Full}
 use Rattle.sv_txn_reader.proofs.ListLaws.{or_false}
 use Rattle.sv_txn_reader.proofs.PieceLaws.{next_alike, kind_next, Made, take, take_last, skip, skip_last, Turns, Stop, Turn, Turning, lawful_turning, turns_law}

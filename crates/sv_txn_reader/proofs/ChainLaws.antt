@@ -1,14 +1,14 @@
 -- Operators of one level, each of which makes what stands before it deeper.
-use Rattle.std.proofs.Common.{◌≡◌, ◌∙◌, ℕ, zero, suc, ◌<◌, ◌≤◌, ◌⊎◌, inl, inr, Bool, true, false, ◌&&◌, if◌then◌else◌, nat_le, List, [], ◌∷◌, ◌++◌, length, Ok, Err, refl, sym, ap, subst, arith, append_assoc, append-nil, cond}
+use Rattle.std.proofs.Common.{◌≡◌, ◌∙◌, ℕ, ◌<◌, ◌≤◌, ◌⊎◌, inl, inr, Bool, true, false, if◌then◌else◌, nat_le, List, [], ◌∷◌, length, Ok, Err, refl, sym, ap, subst, arith, cond}
 use Rattle.std.proofs.lemmas.Bool.Decides.{nat_tests}
 use Rattle.sv_lex.specs.declared.tokens.Token.{Token}
 use Rattle.sv_app.specs.declared.refusals.Code.TheVariants.{Syntax, Many}
 use Rattle.sv_schema_reader.specs.declared.faults.Fault.{Fault}
 use Rattle.sv_schema_reader.specs.Reading.{Read, ◌>>=◌, refuse, turns_at}
 use Rattle.sv_txn_reader.specs.Reading.{keep}
-use Rattle.sv_txn_reader.proofs.Laws.{Mode, Alike, Opens, Passes, Took, Stuck, Cause, Misplaced, TooMany, Exceeds, Reads, Law, reads_same, map_law, read_law, took_map, stuck_map, opens_map, passes_map, cause_map, Then, then_law}
+use Rattle.sv_txn_reader.proofs.Laws.{Alike, Passes, Took, Stuck, TooMany, Reads, Law, reads_same, took_map, stuck_map, Then, then_law}
 use Rattle.sv_txn_reader.proofs.LimitLaws.{depths}
-use Rattle.sv_txn_reader.proofs.PieceLaws.{Either, Left, Right, Is, Turns, Stop, Turn, Perhaps, Turning, guarded, turns_law}
+use Rattle.sv_txn_reader.proofs.PieceLaws.{Left, Right, Turns, Stop, Turn, Perhaps, Turning, guarded, turns_law}
 
 -- as deep as there is room, or free
 abbrev pub Fits : ℕ → Bool → ℕ → Type 0

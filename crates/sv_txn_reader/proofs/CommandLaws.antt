@@ -1,29 +1,28 @@
 -- Statements, if blocks are read as the grammar says.
-use Rattle.std.proofs.Common.{◌≡◌, ◌∙◌, ℕ, suc, ◌+◌, ◌≤◌, ◌⊎◌, inl, inr, Bool, true, false, not, ◌&&◌, ◌||◌, if◌then◌else◌, nat_le, List, [], ◌∷◌, ◌++◌, length, Option, Some, None, Ok, Err, refl, sym, ap, subst, codes, arith, cond}
+use Rattle.std.proofs.Common.{◌≡◌, ◌∙◌, ℕ, suc, ◌+◌, inl, inr, Bool, true, false, not, ◌&&◌, ◌||◌, if◌then◌else◌, nat_le, List, [], ◌∷◌, length, Option, Some, None, Ok, Err, refl, sym, ap, subst, codes, arith, cond}
 use Rattle.sv_lex.specs.declared.marks.Mark.TheVariants as marks
 use Rattle.sv_lex.specs.declared.tokens.Token.{Token}
-use Rattle.sv_lex.specs.declared.tokens.TokenKind.{TokenKind}
-use Rattle.sv_lex.specs.declared.tokens.TokenKind.TheVariants.{Name, Number, Text, Mark}
+use Rattle.sv_lex.specs.declared.tokens.TokenKind.TheVariants.{Name, Mark}
 use Rattle.sv_app.specs.declared.apps.Ident.{Ident}
 use Rattle.sv_app.specs.declared.refusals.Code.TheVariants.{Syntax, Many}
 use Rattle.sv_app.specs.Trees.{Term, Test, Command, Declare, Assign, Fetch, Choose, ForRows, ForEach, Insert, Update, Remove, Abort, Reply, Block, Finish, block_from}
 use Rattle.sv_app.specs.Trees as trees
 use Rattle.sv_schema_reader.specs.declared.faults.Fault.{Fault}
-use Rattle.sv_schema_reader.specs.Reading.{Read, ◌>>=◌, refuse, next, is_kind, is_next, is_some, name_of, is_name, name_at, given, found_at, kind_at, token_at}
+use Rattle.sv_schema_reader.specs.Reading.{Read, ◌>>=◌, refuse, is_kind, is_next, name_at, given, found_at, kind_at}
 use Rattle.sv_schema_reader.proofs.KindLaws.{kind_is}
 use Rattle.sv_txn_reader.specs.declared.counts.Counts.{Counts}
 use Rattle.sv_txn_reader.specs.declared.heads.Head.{Head}
 use Rattle.sv_txn_reader.specs.declared.heads.Head.TheVariants as heads
-use Rattle.sv_txn_reader.specs.Grammar.{Pair, ◌·◌, nothing, kind, mark, word, name, limit, setting, Within, expr, cond as condition, where_part, command, statements, braced, otherwise}
-use Rattle.sv_txn_reader.specs.Reading.{Counted, Several, Blocks, is_sign, is_loop, head_at, may_begin, with_head, with_counts, let_at, assign_at, get_at, if_at, else_at, where_at, for_at, each_at, loop_at, insert_at, update_at, remove_at, abort_at, reply_at, cond_at}
-use Rattle.sv_txn_reader.specs.Standing.{Standing, counts, plus, command_counts, block_counts, deeper}
+use Rattle.sv_txn_reader.specs.Grammar.{◌·◌, nothing, mark, word, name, limit, setting, cond as condition, where_part, command, statements, braced, otherwise}
+use Rattle.sv_txn_reader.specs.Reading.{Counted, Several, Blocks, head_at, may_begin, with_head, with_counts, let_at, assign_at, get_at, if_at, else_at, where_at, for_at, each_at, loop_at, insert_at, update_at, remove_at, abort_at, reply_at}
+use Rattle.sv_txn_reader.specs.Standing.{Standing, counts, plus, command_counts, block_counts}
 use Rattle.sv_txn_reader.proofs.ExprLaws.{cond_law}
-use Rattle.sv_txn_reader.proofs.HeadLaws.{head_of, HeadWord, head_token, head_alike, head_command, command_begins, kind_read, name_read}
-use Rattle.sv_txn_reader.proofs.Laws.{Mode, Alike, Opens, Passes, Took, Stuck, Misplaced, Exceeds, Reads, Law, reads_same, map_law, read_law, clash_law, anything, then_ok, then_err, took_map, stuck_map, opens_map}
-use Rattle.sv_txn_reader.proofs.LimitLaws.{places, Limited, limited_law, Goes, Short, Full}
+use Rattle.sv_txn_reader.proofs.HeadLaws.{head_of, HeadWord, head_token, head_alike, head_command, command_begins, kind_read}
+use Rattle.sv_txn_reader.proofs.Laws.{Mode, Alike, Opens, Took, Stuck, Misplaced, Reads, Law, reads_same, map_law, clash_law, anything, then_ok, then_err, took_map, stuck_map, opens_map}
+use Rattle.sv_txn_reader.proofs.LimitLaws.{places, Limited, limited_law, Short}
 use Rattle.sv_txn_reader.proofs.ListLaws.{or_false}
 use Rattle.sv_txn_reader.proofs.LiteralLaws.{disjoins}
-use Rattle.sv_txn_reader.proofs.PieceLaws.{next_alike, kind_next, kind_test, name_law, name_next, Made, take, take_last, skip, skip_last, ended, Either, Left, Right, either_law}
+use Rattle.sv_txn_reader.proofs.PieceLaws.{next_alike, kind_next, name_law, Made, take, take_last, skip, ended, Either, Left, Right, either_law}
 use Rattle.sv_txn_reader.proofs.SimpleLaws.{AssignWords, GetWords, InsertWords, UpdateWords, RemoveWords, AbortWords, ReplyWords, let_of, let_law, assign_law, get_law, insert_law, update_law, remove_law, abort_law, reply_law}
 
 abbrev pub standing : ℕ → Bool → Counts → Standing
@@ -147,23 +146,26 @@ module _ (depth : ℕ) (looped : Bool) (before : Counts) (blocks : Blocks) (inne
       let x = m.«from» in
       let yes = m.is.second.second.first in
       let other = m.is.second.second.second in
-      subst (λ y. Cmd depth looped before i y l r × (head_of y.0 ≡ heads.If)) (sym m.made) (record {
-        is = record {
-          middle = m.is.middle;
-          first = m.is.first;
-          second = record {
-            middle = m.is.second.middle;
-            first = m.is.second.first;
+      subst (λ y. Cmd depth looped before i y l r × (head_of y.0 ≡ heads.If)) (sym m.made) (
+        record {
+          is = record {
+            middle = m.is.middle;
+            first = m.is.first;
             second = record {
-              middle = m.is.second.second.middle;
-              first = yes.is;
-              second = subst (λ k. otherwise (block_from x.1.1.0) (braced i (standing depth looped k) (statements i (standing (suc depth) looped k) (block_from x.1.1.0))) m.is.second.second.middle r) yes.after other.is;
+              middle = m.is.second.middle;
+              first = m.is.second.first;
+              second = record {
+                middle = m.is.second.second.middle;
+                first = yes.is;
+                second = subst (λ k. otherwise (block_from x.1.1.0) (braced i (standing depth looped k) (statements i (standing (suc depth) looped k) (block_from x.1.1.0))) m.is.second.second.middle r) yes.after other.is;
+              };
             };
           };
-        };
-        after = other.after ∙ ap (λ k. plus k (block_counts (block_from x.1.1.0))) yes.after ∙ ap (λ k. plus k (block_counts (block_from x.1.1.0))) (plus_assoc before one (block_counts (block_from x.1.0.0)))
-            ∙ plus_assoc before (plus one (block_counts (block_from x.1.0.0))) (block_counts (block_from x.1.1.0)) ∙ ap (λ k. plus before k) (plus_assoc one (block_counts (block_from x.1.0.0)) (block_counts (block_from x.1.1.0)));
-      }, refl)
+          after = other.after ∙ ap (λ k. plus k (block_counts (block_from x.1.1.0))) yes.after ∙ ap (λ k. plus k (block_counts (block_from x.1.1.0))) (plus_assoc before one (block_counts (block_from x.1.0.0)))
+              ∙ plus_assoc before (plus one (block_counts (block_from x.1.0.0))) (block_counts (block_from x.1.1.0)) ∙ ap (λ k. plus before k) (plus_assoc one (block_counts (block_from x.1.0.0)) (block_counts (block_from x.1.1.0)));
+        },
+        refl,
+      )
 
   if_out : (i : ℕ) (c : Counted) (l r : List Token) → Cmd depth looped before i c l r → head_of c.0 ≡ heads.If → IfWords i c l r
   if_out i (Choose t ys ns, k) l r cmd e =
@@ -266,132 +268,142 @@ module _ (depth : ℕ) (looped : Bool) (before : Counts) (blocks : Blocks) (inne
   unfolding for_at
   for_counted = limited_law (is_next (Name (codes "for"))) 15 n.loops (next_alike (λ token. is_kind (Name (codes "for")) token.kind)) refl for_words (λ i c l r x. kind_next (Name (codes "for")) l x.is.middle x.is.first)
       (λ l e. then_err (λ _ r1. name_at r1 >>= λ row r2. kind_at (Name (codes "in")) r2 >>= λ _ r3. name_at r3 >>= λ table r4. where_at r4 >>= λ t r5. blocks true m r5 >>= λ body r6.
-          Ok ((ForRows row table t (block_from body.0), body.1), r6)) (word_misplaced (codes "for") l e))
+      Ok ((ForRows row table t (block_from body.0), body.1), r6)) (word_misplaced (codes "for") l e))
       (λ token others t. Short (then_ok (λ _ r1. name_at r1 >>= λ row r2. kind_at (Name (codes "in")) r2 >>= λ _ r3. name_at r3 >>= λ table r4. where_at r4 >>= λ t r5. blocks true m r5 >>= λ body r6.
-          Ok ((ForRows row table t (block_from body.0), body.1), r6)) (kind_read (Name (codes "for")) token [] (kind_is (Name (codes "for")) token.kind t))))
+      Ok ((ForRows row table t (block_from body.0), body.1), r6)) (kind_read (Name (codes "for")) token [] (kind_is (Name (codes "for")) token.kind t))))
 
   each_counted : Law places is_else (Limited 15 n.loops EachWords) (counted_loop (codes "each") (each_at blocks))
   unfolding each_at
   each_counted = limited_law (is_next (Name (codes "each"))) 15 n.loops (next_alike (λ token. is_kind (Name (codes "each")) token.kind)) refl each_words (λ i c l r x. kind_next (Name (codes "each")) l x.is.middle x.is.first)
       (λ l e. then_err (λ _ r1. name_at r1 >>= λ var r2. kind_at (Name (codes "in")) r2 >>= λ _ r3. name_at r3 >>= λ list r4. blocks true m r4 >>= λ body r5.
-          Ok ((ForEach var list (block_from body.0), body.1), r5)) (word_misplaced (codes "each") l e))
+      Ok ((ForEach var list (block_from body.0), body.1), r5)) (word_misplaced (codes "each") l e))
       (λ token others t. Short (then_ok (λ _ r1. name_at r1 >>= λ var r2. kind_at (Name (codes "in")) r2 >>= λ _ r3. name_at r3 >>= λ list r4. blocks true m r4 >>= λ body r5.
-          Ok ((ForEach var list (block_from body.0), body.1), r5)) (kind_read (Name (codes "each")) token [] (kind_is (Name (codes "each")) token.kind t))))
+      Ok ((ForEach var list (block_from body.0), body.1), r5)) (kind_read (Name (codes "each")) token [] (kind_is (Name (codes "each")) token.kind t))))
 
   for_into : looped ≡ false → (i : ℕ) (c : Counted) (l r : List Token) → Limited 15 n.loops ForWords i c l r → Cmd depth looped before i c l r × (head_of c.0 ≡ heads.For)
-  for_into free i c l r (w, x) = subst (λ y. Cmd depth looped before i y l r × (head_of y.0 ≡ heads.For)) (sym x.made) (record {
-    is = record {
-      middle = l;
-      first = (free, (refl, w));
-      second = record {
-        middle = x.is.middle;
-        first = x.is.first;
+  for_into free i c l r (w, x) = subst (λ y. Cmd depth looped before i y l r × (head_of y.0 ≡ heads.For)) (sym x.made) (
+    record {
+      is = record {
+        middle = l;
+        first = (free, (refl, w));
         second = record {
-          middle = x.is.second.middle;
-          first = x.is.second.first;
+          middle = x.is.middle;
+          first = x.is.first;
           second = record {
-            middle = x.is.second.second.middle;
-            first = x.is.second.second.first;
+            middle = x.is.second.middle;
+            first = x.is.second.first;
             second = record {
-              middle = x.is.second.second.second.middle;
-              first = x.is.second.second.second.first;
+              middle = x.is.second.second.middle;
+              first = x.is.second.second.first;
               second = record {
-                middle = x.is.second.second.second.second.middle;
-                first = x.is.second.second.second.second.first;
-                second = x.is.second.second.second.second.second.is;
+                middle = x.is.second.second.second.middle;
+                first = x.is.second.second.second.first;
+                second = record {
+                  middle = x.is.second.second.second.second.middle;
+                  first = x.is.second.second.second.second.first;
+                  second = x.is.second.second.second.second.second.is;
+                };
               };
             };
           };
         };
       };
-    };
-    after = x.is.second.second.second.second.second.after ∙ loop_counts (block_counts (block_from x.«from».1.1.1.0));
-  }, refl)
+      after = x.is.second.second.second.second.second.after ∙ loop_counts (block_counts (block_from x.«from».1.1.1.0));
+    },
+    refl,
+  )
 
   for_out : (i : ℕ) (c : Counted) (l r : List Token) → Cmd depth looped before i c l r → head_of c.0 ≡ heads.For → Limited 15 n.loops ForWords i c l r
   for_out i (ForRows a t o body, k) l r cmd e =
       let same : block_from (commands_of body) ≡ body = from_commands body in
-      let x = subst (λ y. (word (codes "for") · name a · word (codes "in") · name t · where_part i o · braced i at (statements i (standing (suc depth) true m) body)) y r) (sym cmd.is.first.1.0) cmd.is.second in
-      (cmd.is.first.1.1, record {
-        «from» = (a, (t, (o, (commands_of body, k))));
-        is = record {
-          middle = x.middle;
-          first = x.first;
-          second = record {
-            middle = x.second.middle;
-            first = x.second.first;
+      let x = subst (λ y. (word (codes "for") · name a · word (codes "in") · name t · where_part i o · braced i at (statements i (standing (suc depth) true m) body)) y r) (sym cmd.is.first.1.0) cmd.is.second in (
+        cmd.is.first.1.1,
+        record {
+          «from» = (a, (t, (o, (commands_of body, k))));
+          is = record {
+            middle = x.middle;
+            first = x.first;
             second = record {
-              middle = x.second.second.middle;
-              first = x.second.second.first;
+              middle = x.second.middle;
+              first = x.second.first;
               second = record {
-                middle = x.second.second.second.middle;
-                first = x.second.second.second.first;
+                middle = x.second.second.middle;
+                first = x.second.second.first;
                 second = record {
-                  middle = x.second.second.second.second.middle;
-                  first = x.second.second.second.second.first;
+                  middle = x.second.second.second.middle;
+                  first = x.second.second.second.first;
                   second = record {
-                    is = subst (λ b. braced i at (statements i (standing (suc depth) true m) b) x.second.second.second.second.middle r) (sym same) x.second.second.second.second.second;
+                    middle = x.second.second.second.second.middle;
+                    first = x.second.second.second.second.first;
+                    second = record {
+                      is = subst (λ b. braced i at (statements i (standing (suc depth) true m) b) x.second.second.second.second.middle r) (sym same) x.second.second.second.second.second;
+                      after = cmd.after ∙ sym (loop_counts (block_counts body)) ∙ ap (λ b. plus m (block_counts b)) (sym same);
+                    };
+                  };
+                };
+              };
+            };
+          };
+          made = λ j. (ForRows a t o (sym same j), k);
+        },
+      )
+  for_out i _ l r cmd e = absurd cc
+
+  each_into : looped ≡ false → (i : ℕ) (c : Counted) (l r : List Token) → Limited 15 n.loops EachWords i c l r → Cmd depth looped before i c l r × (head_of c.0 ≡ heads.Each)
+  each_into free i c l r (w, x) = subst (λ y. Cmd depth looped before i y l r × (head_of y.0 ≡ heads.Each)) (sym x.made) (
+    record {
+      is = record {
+        middle = l;
+        first = (free, (refl, w));
+        second = record {
+          middle = x.is.middle;
+          first = x.is.first;
+          second = record {
+            middle = x.is.second.middle;
+            first = x.is.second.first;
+            second = record {
+              middle = x.is.second.second.middle;
+              first = x.is.second.second.first;
+              second = record { middle = x.is.second.second.second.middle; first = x.is.second.second.second.first; second = x.is.second.second.second.second.is };
+            };
+          };
+        };
+      };
+      after = x.is.second.second.second.second.after ∙ loop_counts (block_counts (block_from x.«from».1.1.0));
+    },
+    refl,
+  )
+
+  each_out : (i : ℕ) (c : Counted) (l r : List Token) → Cmd depth looped before i c l r → head_of c.0 ≡ heads.Each → Limited 15 n.loops EachWords i c l r
+  each_out i (ForEach a t body, k) l r cmd e =
+      let same : block_from (commands_of body) ≡ body = from_commands body in
+      let x = subst (λ y. (word (codes "each") · name a · word (codes "in") · name t · braced i at (statements i (standing (suc depth) true m) body)) y r) (sym cmd.is.first.1.0) cmd.is.second in (
+        cmd.is.first.1.1,
+        record {
+          «from» = (a, (t, (commands_of body, k)));
+          is = record {
+            middle = x.middle;
+            first = x.first;
+            second = record {
+              middle = x.second.middle;
+              first = x.second.first;
+              second = record {
+                middle = x.second.second.middle;
+                first = x.second.second.first;
+                second = record {
+                  middle = x.second.second.second.middle;
+                  first = x.second.second.second.first;
+                  second = record {
+                    is = subst (λ b. braced i at (statements i (standing (suc depth) true m) b) x.second.second.second.middle r) (sym same) x.second.second.second.second;
                     after = cmd.after ∙ sym (loop_counts (block_counts body)) ∙ ap (λ b. plus m (block_counts b)) (sym same);
                   };
                 };
               };
             };
           };
-        };
-        made = λ j. (ForRows a t o (sym same j), k);
-      })
-  for_out i _ l r cmd e = absurd cc
-
-  each_into : looped ≡ false → (i : ℕ) (c : Counted) (l r : List Token) → Limited 15 n.loops EachWords i c l r → Cmd depth looped before i c l r × (head_of c.0 ≡ heads.Each)
-  each_into free i c l r (w, x) = subst (λ y. Cmd depth looped before i y l r × (head_of y.0 ≡ heads.Each)) (sym x.made) (record {
-    is = record {
-      middle = l;
-      first = (free, (refl, w));
-      second = record {
-        middle = x.is.middle;
-        first = x.is.first;
-        second = record {
-          middle = x.is.second.middle;
-          first = x.is.second.first;
-          second = record {
-            middle = x.is.second.second.middle;
-            first = x.is.second.second.first;
-            second = record { middle = x.is.second.second.second.middle; first = x.is.second.second.second.first; second = x.is.second.second.second.second.is };
-          };
-        };
-      };
-    };
-    after = x.is.second.second.second.second.after ∙ loop_counts (block_counts (block_from x.«from».1.1.0));
-  }, refl)
-
-  each_out : (i : ℕ) (c : Counted) (l r : List Token) → Cmd depth looped before i c l r → head_of c.0 ≡ heads.Each → Limited 15 n.loops EachWords i c l r
-  each_out i (ForEach a t body, k) l r cmd e =
-      let same : block_from (commands_of body) ≡ body = from_commands body in
-      let x = subst (λ y. (word (codes "each") · name a · word (codes "in") · name t · braced i at (statements i (standing (suc depth) true m) body)) y r) (sym cmd.is.first.1.0) cmd.is.second in
-      (cmd.is.first.1.1, record {
-        «from» = (a, (t, (commands_of body, k)));
-        is = record {
-          middle = x.middle;
-          first = x.first;
-          second = record {
-            middle = x.second.middle;
-            first = x.second.first;
-            second = record {
-              middle = x.second.second.middle;
-              first = x.second.second.first;
-              second = record {
-                middle = x.second.second.second.middle;
-                first = x.second.second.second.first;
-                second = record {
-                  is = subst (λ b. braced i at (statements i (standing (suc depth) true m) b) x.second.second.second.middle r) (sym same) x.second.second.second.second;
-                  after = cmd.after ∙ sym (loop_counts (block_counts body)) ∙ ap (λ b. plus m (block_counts b)) (sym same);
-                };
-              };
-            };
-          };
-        };
-        made = λ j. (ForEach a t (sym same j), k);
-      })
+          made = λ j. (ForEach a t (sym same j), k);
+        },
+      )
   each_out i _ l r cmd e = absurd cc
 
   -- statements by what they begin with

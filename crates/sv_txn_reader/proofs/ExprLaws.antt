@@ -1,17 +1,17 @@
 -- Expressions and conditions in the text: each may be too deep only where it may pass a limit as a whole.
-use Rattle.std.proofs.Common.{◌≡◌, ◌∙◌, ℕ, suc, ◌≤◌, ◌⊎◌, inl, inr, Bool, true, false, List, [], ◌∷◌, ◌++◌, length, Ok, Err, refl, sym, ap, subst, arith}
+use Rattle.std.proofs.Common.{◌≡◌, ℕ, suc, ◌≤◌, ◌⊎◌, inl, inr, Bool, true, false, List, [], ◌∷◌, ◌++◌, length, refl, sym, ap, subst, arith}
 use Rattle.std.proofs.lemmas.List.{length-append}
 use Rattle.sv_lex.specs.declared.tokens.Token.{Token}
 use Rattle.sv_app.specs.declared.refusals.Code.{Code}
-use Rattle.sv_app.specs.declared.refusals.Code.TheVariants.{Syntax, Many}
+use Rattle.sv_app.specs.declared.refusals.Code.TheVariants.{Many}
 use Rattle.sv_app.specs.Trees.{Term, Test}
 use Rattle.sv_schema_reader.specs.declared.faults.Fault.{Fault}
-use Rattle.sv_schema_reader.specs.Reading.{Read, ◌>>=◌, refuse}
+use Rattle.sv_schema_reader.specs.Reading.{Read}
 use Rattle.sv_txn_reader.specs.Grammar.{Within, Sums, IsTerm, expr, Disjunctions, IsTest, cond}
-use Rattle.sv_txn_reader.specs.Reading.{expr_at, cond_at, sums_at, disjunctions_at}
+use Rattle.sv_txn_reader.specs.Reading.{expr_at, cond_at}
 use Rattle.sv_txn_reader.proofs.ChainLaws.{Fits}
 use Rattle.sv_txn_reader.proofs.FactorLaws.{Deep, tall, adds}
-use Rattle.sv_txn_reader.proofs.Laws.{Alike, Opens, Passes, Took, Stuck, Cause, Misplaced, TooMany, Exceeds, Reads, Law, reads_same, map_law, bound, bound_err, Bound, Same, same_read, then_ok, then_err}
+use Rattle.sv_txn_reader.proofs.Laws.{Opens, Passes, Took, Stuck, Cause, Misplaced, TooMany, Reads, Law, map_law}
 use Rattle.sv_txn_reader.proofs.LimitLaws.{depths, places}
 use Rattle.sv_txn_reader.proofs.LiteralLaws.{DeepTest, tall_test, disjoins}
 use Rattle.sv_txn_reader.proofs.PieceLaws.{Made, take_last}

@@ -1,5 +1,5 @@
 -- Factors.
-use Rattle.std.proofs.Common.{◌≡◌, ◌∙◌, ℕ, zero, suc, ◌<◌, ◌≤◌, ◌⊎◌, inl, inr, Bool, true, false, not, ◌||◌, if◌then◌else◌, nat_le, List, [], ◌∷◌, ◌++◌, length, Option, Some, None, Ok, Err, refl, sym, ap, subst, pos, codes, arith, max, cond}
+use Rattle.std.proofs.Common.{◌≡◌, ◌∙◌, ℕ, suc, inl, inr, Bool, true, false, ◌||◌, if◌then◌else◌, nat_le, List, [], ◌∷◌, Some, refl, sym, ap, subst, codes, arith, max}
 use Rattle.std.proofs.lemmas.Bool.Decides.{nat_tests}
 use Rattle.sv_value.specs.declared.spots.Spot.{Spot}
 use Rattle.sv_lex.specs.declared.marks.Mark.{Mark as IsMark}
@@ -8,20 +8,20 @@ use Rattle.sv_lex.specs.declared.tokens.Token.{Token}
 use Rattle.sv_lex.specs.declared.tokens.TokenKind.{TokenKind}
 use Rattle.sv_lex.specs.declared.tokens.TokenKind.TheVariants.{Name, Number, Text, Mark}
 use Rattle.sv_app.specs.declared.apps.Ident.{Ident}
-use Rattle.sv_app.specs.declared.refusals.Code.TheVariants.{Syntax, Many}
+use Rattle.sv_app.specs.declared.refusals.Code.TheVariants.{Many}
 use Rattle.sv_app.specs.Trees.{Term, Variable, Field, Old, Minus}
 use Rattle.sv_app.specs.Trees as trees
-use Rattle.sv_schema_reader.specs.Reading.{Read, ◌>>=◌, refuse, next, is_kind, is_next, is_some, ident_of, name_of, is_name, name_at, token_at}
+use Rattle.sv_schema_reader.specs.Reading.{Read, refuse, next, is_kind, is_next}
 use Rattle.sv_schema_reader.proofs.KindLaws.{kind_is, token_of}
 use Rattle.sv_schema_reader.proofs.PartLaws.{name_is}
 use Rattle.sv_txn_reader.specs.Grammar.{Pair, ◌·◌, One, nothing, kind, mark, IsName, name, placed, Rank, Factors, Products, Sums, IsTerm, ANumber, AText, AVariable, AField, AnOld, ASign, AGroup, OneFactor, AProduct, OneProduct, ASum, ADifference}
 use Rattle.sv_txn_reader.specs.Grammar as grammar
-use Rattle.sv_txn_reader.specs.Reading.{Graded, never, literal, literal_of, leaf_at, sign_at, group_at, factor_with, is_sign}
-use Rattle.sv_txn_reader.proofs.ChainLaws.{Fits, fits_less}
-use Rattle.sv_txn_reader.proofs.Laws.{Mode, Alike, Opens, Passes, Law, map_law, read_law, anything, Then, then_law, clash_law}
-use Rattle.sv_txn_reader.proofs.LeafLaws.{dotted, Leaf, leaf_at_law, literal_test, OldWords, name_no_word}
+use Rattle.sv_txn_reader.specs.Reading.{Graded, never, literal, leaf_at, sign_at, group_at, factor_with, is_sign}
+use Rattle.sv_txn_reader.proofs.ChainLaws.{Fits}
+use Rattle.sv_txn_reader.proofs.Laws.{Passes, Law, map_law, read_law, anything}
+use Rattle.sv_txn_reader.proofs.LeafLaws.{dotted, Leaf, leaf_at_law, literal_test}
 use Rattle.sv_txn_reader.proofs.LimitLaws.{depths, many_law}
-use Rattle.sv_txn_reader.proofs.PieceLaws.{next_alike, Means, leaf_law, kind_law, name_law, name_next, kind_next, kind_some, kind_placed, kind_test, Made, take, take_last, skip, skip_last, ended, Either, Left, Right, either_law, a_name, name_token, is_a_name}
+use Rattle.sv_txn_reader.proofs.PieceLaws.{next_alike, kind_law, kind_next, kind_some, kind_test, Made, take, take_last, skip_last, Either, Left, Right, either_law, a_name, name_token, is_a_name}
 
 -- an expression and how much deeper it is than a name, where there is so much room
 pub record Deep (rank : Rank) (room : ℕ) (i : Bool) (g : Graded) (tokens rest : List Token) : Type 0 where
@@ -164,26 +164,34 @@ flat_law = map_law (read_law same
     group_begins token others t = record {
       more = name_token ∷ token_of (Mark marks.RightParen) ∷ [];
       item = (placed token.spot (Variable a_name a_name.spot), 1);
-      is = λ i m free. Left (t, free, record {
-        depth = 2;
-        is = AGroup 1 (Variable a_name a_name.spot) token.spot (token ∷ name_token ∷ token_of (Mark marks.RightParen) ∷ m) (name_token ∷ token_of (Mark marks.RightParen) ∷ m) (token_of (Mark marks.RightParen) ∷ m) m
-            (record { token = token; next = refl; holds = (kind_is (Mark marks.LeftParen) token.kind t, refl) })
-            (OneProduct 1 _ _ _ (OneFactor 1 _ _ _ (a_term (token_of (Mark marks.RightParen) ∷ m)))) (record { token = token_of (Mark marks.RightParen); next = refl; holds = refl });
-        extra = refl;
-        within = inr free;
-      });
+      is = λ i m free. Left (
+        t,
+        free,
+        record {
+          depth = 2;
+          is = AGroup 1 (Variable a_name a_name.spot) token.spot (token ∷ name_token ∷ token_of (Mark marks.RightParen) ∷ m) (name_token ∷ token_of (Mark marks.RightParen) ∷ m) (token_of (Mark marks.RightParen) ∷ m) m
+              (record { token = token; next = refl; holds = (kind_is (Mark marks.LeftParen) token.kind t, refl) })
+              (OneProduct 1 _ _ _ (OneFactor 1 _ _ _ (a_term (token_of (Mark marks.RightParen) ∷ m)))) (record { token = token_of (Mark marks.RightParen); next = refl; holds = refl });
+          extra = refl;
+          within = inr free;
+        },
+      );
     }
 
     sign_begins : (token : Token) (others : List Token) → minus (token ∷ others) ≡ true → Passes depths (Either FlatSign (Either FlatGroup (Leaf depths))) (token ∷ [])
     sign_begins token others t = record {
       more = name_token ∷ [];
       item = (Minus (Variable a_name a_name.spot) token.spot, 1);
-      is = λ i m free. Left (t, free, record {
-        depth = 2;
-        is = ASign 1 (Variable a_name a_name.spot) token.spot (token ∷ name_token ∷ m) (name_token ∷ m) m (record { token = token; next = refl; holds = (kind_is (Mark marks.Minus) token.kind t, refl) }) (a_term m);
-        extra = refl;
-        within = inr free;
-      });
+      is = λ i m free. Left (
+        t,
+        free,
+        record {
+          depth = 2;
+          is = ASign 1 (Variable a_name a_name.spot) token.spot (token ∷ name_token ∷ m) (name_token ∷ m) m (record { token = token; next = refl; holds = (kind_is (Mark marks.Minus) token.kind t, refl) }) (a_term m);
+          extra = refl;
+          within = inr free;
+        },
+      );
     }
 
     into : (i : Bool) (g : Graded) (l r : List Token) → Either FlatSign (Either FlatGroup (Leaf depths)) i g l r → Deep Factors 0 i g l r

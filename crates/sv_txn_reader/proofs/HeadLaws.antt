@@ -1,21 +1,19 @@
 -- What a statement begins with.
-use Rattle.std.proofs.Common.{◌≡◌, ◌∙◌, ℕ, suc, ◌≤◌, ◌⊎◌, inl, inr, Bool, true, false, not, ◌&&◌, ◌||◌, if◌then◌else◌, List, [], ◌∷◌, ◌++◌, length, Option, Some, None, Ok, Err, refl, sym, ap, subst, codes, bytes_eq, cond}
+use Rattle.std.proofs.Common.{◌≡◌, ◌∙◌, ℕ, Bool, true, false, not, ◌&&◌, if◌then◌else◌, List, [], ◌∷◌, Option, Some, None, Ok, refl, sym, ap, subst, codes, bytes_eq, cond}
 use Rattle.std.proofs.lemmas.Slice.Eq.{bytes_eq-Decides}
-use Rattle.sv_lex.specs.declared.marks.Mark.TheVariants as marks
 use Rattle.sv_lex.specs.declared.tokens.Token.{Token}
 use Rattle.sv_lex.specs.declared.tokens.TokenKind.{TokenKind}
 use Rattle.sv_lex.specs.declared.tokens.TokenKind.TheVariants.{Name, Number, Text, Mark}
 use Rattle.sv_app.specs.declared.apps.Ident.{Ident}
-use Rattle.sv_app.specs.declared.refusals.Code.TheVariants.{Syntax, Many}
+use Rattle.sv_app.specs.declared.refusals.Code.TheVariants.{Syntax}
 use Rattle.sv_app.specs.Trees.{Command, Declare, Assign, Fetch, Choose, ForRows, ForEach, Insert, Update, Remove, Abort, Reply}
 use Rattle.sv_app.specs.Words.{is_reserved}
-use Rattle.sv_schema_reader.specs.Reading.{Read, ◌>>=◌, refuse, by_word, given, is_kind, is_next, is_some, name_of, ident_of, is_name, name_at, kind_at, found_at, token_at}
+use Rattle.sv_schema_reader.specs.Reading.{refuse, by_word, given, is_kind, is_some, name_of, is_name, name_at, kind_at, found_at}
 use Rattle.sv_schema_reader.proofs.KindLaws.{kind_same}
-use Rattle.sv_schema_reader.proofs.PartLaws.{is_named}
 use Rattle.sv_txn_reader.specs.declared.heads.Head.{Head}
 use Rattle.sv_txn_reader.specs.declared.heads.Head.TheVariants as heads
-use Rattle.sv_txn_reader.specs.Grammar.{Pair, ◌·◌, One, nothing, kind, word, IsName, name, command, limit}
-use Rattle.sv_txn_reader.specs.Reading.{head_named, head_at, is_loop, may_begin}
+use Rattle.sv_txn_reader.specs.Grammar.{word, name, command}
+use Rattle.sv_txn_reader.specs.Reading.{head_named, head_at, may_begin}
 use Rattle.sv_txn_reader.specs.Standing.{Standing}
 use Rattle.sv_txn_reader.proofs.Laws.{Alike}
 

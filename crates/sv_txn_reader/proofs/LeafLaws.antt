@@ -1,7 +1,6 @@
 -- Expressions of one or two names, numbers and texts.
-use Rattle.std.proofs.Common.{◌≡◌, ◌∙◌, ℕ, zero, suc, ◌⊎◌, inl, inr, Bool, true, false, not, ◌||◌, if◌then◌else◌, List, [], ◌∷◌, ◌++◌, length, Option, Some, None, Ok, Err, refl, sym, ap, subst, pos, codes}
+use Rattle.std.proofs.Common.{◌≡◌, ◌∙◌, ℕ, Bool, true, false, List, Some, refl, sym, ap, subst, pos, codes}
 use Rattle.sv_value.specs.declared.spots.Spot.{Spot}
-use Rattle.sv_lex.specs.declared.marks.Mark.{Mark as IsMark}
 use Rattle.sv_lex.specs.declared.marks.Mark.TheVariants as marks
 use Rattle.sv_lex.specs.declared.tokens.Token.{Token}
 use Rattle.sv_lex.specs.declared.tokens.TokenKind.{TokenKind}
@@ -10,13 +9,12 @@ use Rattle.sv_app.specs.declared.apps.Ident.{Ident}
 use Rattle.sv_app.specs.Trees.{Term, Variable, Field, Old}
 use Rattle.sv_app.specs.Trees as trees
 use Rattle.sv_app.specs.Words.{is_reserved}
-use Rattle.sv_schema_reader.specs.Reading.{Read, ◌>>=◌, next, is_kind, is_next, is_some, ident_of, name_of, is_name, name_at, token_at}
+use Rattle.sv_schema_reader.specs.Reading.{next, is_kind, is_next, is_some, ident_of, name_of, is_name, name_at}
 use Rattle.sv_schema_reader.proofs.KindLaws.{kind_is, token_of}
-use Rattle.sv_schema_reader.proofs.PartLaws.{is_named}
 use Rattle.sv_txn_reader.specs.Grammar.{Pair, ◌·◌, One, nothing, kind, mark, IsName, name}
 use Rattle.sv_txn_reader.specs.Grammar as grammar
 use Rattle.sv_txn_reader.specs.Reading.{Graded, literal, literal_of, field_at, old_at, leaf_at}
-use Rattle.sv_txn_reader.proofs.Laws.{Mode, Alike, Law, map_law, read_law, anything, Then, then_law, clash_law}
+use Rattle.sv_txn_reader.proofs.Laws.{Mode, Law, anything, Then, then_law}
 use Rattle.sv_txn_reader.proofs.PieceLaws.{next_alike, Means, leaf_law, kind_law, name_law, name_next, kind_next, kind_some, Made, take, take_last, skip, ended, Either, Left, Right, either_law}
 
 abbrev pub dotted : List Token → Bool

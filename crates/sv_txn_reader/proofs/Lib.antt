@@ -1,10 +1,12 @@
 pub mod BlockLaws
+pub mod BlockRoomLaws
 pub mod ChainLaws
 pub mod CommandLaws
 pub mod ExprLaws
 pub mod FactorLaws
 pub mod Laws
 pub mod LeafLaws
+pub mod FoundLaws
 pub mod HeadLaws
 pub mod LimitLaws
 pub mod ListLaws

@@ -1,5 +1,5 @@
 -- Limits: where they count, and readings that keep them.
-use Rattle.std.proofs.Common.{◌≡◌, ◌∙◌, ℕ, zero, suc, ◌<◌, ◌≤◌, ◌⊎◌, inl, inr, Bool, true, false, ◌&&◌, if◌then◌else◌, nat_le, List, [], ◌∷◌, ◌++◌, length, Ok, Err, refl, sym, ap, subst, arith, append_assoc, append-nil, cond}
+use Rattle.std.proofs.Common.{◌≡◌, ◌∙◌, ℕ, suc, ◌≤◌, ◌⊎◌, inl, inr, Bool, true, false, ◌&&◌, if◌then◌else◌, nat_le, List, [], ◌∷◌, ◌++◌, length, Ok, Err, refl, sym, ap, subst, arith, append-nil, cond}
 use Rattle.std.proofs.lemmas.Bool.Decides.{nat_tests}
 use Rattle.std.proofs.lemmas.List.{length-append}
 use Rattle.sv_lex.specs.declared.tokens.Token.{Token}
@@ -8,7 +8,7 @@ use Rattle.sv_app.specs.declared.refusals.Code.TheVariants.{Syntax, Many}
 use Rattle.sv_schema_reader.specs.declared.faults.Fault.{Fault}
 use Rattle.sv_schema_reader.specs.Reading.{Read, refuse}
 use Rattle.sv_txn_reader.specs.Grammar.{Within}
-use Rattle.sv_txn_reader.proofs.Laws.{Mode, Alike, Opens, Passes, Took, Stuck, Cause, Misplaced, TooMany, Exceeds, Reads, Law, reads_same, map_law, read_law, took_map, stuck_map, opens_map, passes_map, cause_map}
+use Rattle.sv_txn_reader.proofs.Laws.{Mode, Alike, Opens, Passes, Took, Stuck, Cause, Misplaced, TooMany, Reads, Law, reads_same, map_law, read_law, took_map, stuck_map, opens_map}
 use Rattle.sv_txn_reader.proofs.PieceLaws.{Either, Left, Right}
 
 pub longer : (a b : List Token) (n : ℕ) → length (a ++ b) ≤ n → length b ≤ n

@@ -1,19 +1,19 @@
 -- Lists between commas.
-use Rattle.std.proofs.Common.{◌≡◌, ◌∙◌, ℕ, suc, ◌<◌, ◌≤◌, ◌⊎◌, inl, inr, Bool, true, false, ◌||◌, if◌then◌else◌, List, [], ◌∷◌, ◌++◌, length, Ok, Err, refl, sym, ap, subst, append_assoc, append-nil}
+use Rattle.std.proofs.Common.{◌≡◌, ◌∙◌, ℕ, ◌<◌, Bool, true, false, ◌||◌, if◌then◌else◌, List, [], ◌∷◌, ◌++◌, length, Ok, Err, refl, sym, ap, subst, append_assoc, append-nil}
 use Rattle.sv_lex.specs.declared.marks.Mark.TheVariants as marks
 use Rattle.sv_lex.specs.declared.tokens.Token.{Token}
-use Rattle.sv_lex.specs.declared.tokens.TokenKind.TheVariants.{Name, Mark}
+use Rattle.sv_lex.specs.declared.tokens.TokenKind.TheVariants.{Mark}
 use Rattle.sv_app.specs.declared.apps.Ident.{Ident}
 use Rattle.sv_app.specs.Trees.{Term}
 use Rattle.sv_schema_reader.specs.declared.faults.Fault.{Fault}
-use Rattle.sv_schema_reader.specs.Reading.{Read, ◌>>=◌, is_kind, is_next, kind_at, turns_at, name_at}
-use Rattle.sv_txn_reader.specs.Grammar.{◌·◌, nothing, kind, mark, name, others, separated, expr, keys, index, setting}
-use Rattle.sv_txn_reader.specs.Reading.{keep, is_sign, expr_at, keys_at, index_at, setting_at, item_step, item_turn, list_of, value_at, set_at}
+use Rattle.sv_schema_reader.specs.Reading.{Read, ◌>>=◌, is_kind, is_next, kind_at, turns_at}
+use Rattle.sv_txn_reader.specs.Grammar.{◌·◌, nothing, mark, others, separated, expr, keys, index, setting}
+use Rattle.sv_txn_reader.specs.Reading.{keep, expr_at, keys_at, index_at, setting_at, item_step, item_turn, list_of, value_at, set_at}
 use Rattle.sv_txn_reader.proofs.ExprLaws.{expr_law}
 use Rattle.sv_txn_reader.proofs.FactorLaws.{adds}
-use Rattle.sv_txn_reader.proofs.Laws.{Alike, Law, map_law, read_law, clash_law, anything, Then, then_law}
+use Rattle.sv_txn_reader.proofs.Laws.{Law, map_law, clash_law, anything, Then, then_law}
 use Rattle.sv_txn_reader.proofs.LimitLaws.{places}
-use Rattle.sv_txn_reader.proofs.PieceLaws.{next_alike, kind_next, kind_law, name_law, Made, take, take_last, skip, skip_last, ended, Either, Left, Right, either_law, Turns, Stop, Turn, Turning, lawful_turning, turns_law, shorter, turn_read, turn_err, turn_end}
+use Rattle.sv_txn_reader.proofs.PieceLaws.{next_alike, kind_next, name_law, Made, take, take_last, skip, skip_last, ended, Either, Left, Right, either_law, Turns, Stop, Turn, Turning, lawful_turning, turns_law, shorter, turn_read, turn_err, turn_end}
 
 abbrev pub joins : List Token → Bool
 joins tokens = adds tokens || is_next (Mark marks.Comma) tokens

@@ -1,26 +1,25 @@
 -- Comparisons, negations, and conditions between brackets.
-use Rattle.std.proofs.Common.{◌≡◌, ◌∙◌, ℕ, zero, suc, ◌<◌, ◌≤◌, ◌⊎◌, inl, inr, Bool, true, false, ◌||◌, if◌then◌else◌, nat_le, List, [], ◌∷◌, ◌++◌, length, Option, Some, None, Ok, Err, refl, sym, ap, subst, codes, arith, max, cond}
+use Rattle.std.proofs.Common.{◌≡◌, ◌∙◌, ℕ, suc, inl, inr, Bool, true, false, ◌||◌, if◌then◌else◌, nat_le, List, [], ◌∷◌, Option, Some, refl, sym, ap, subst, codes, arith, max}
 use Rattle.std.proofs.lemmas.Bool.Decides.{nat_tests}
-use Rattle.sv_value.specs.declared.spots.Spot.{Spot}
 use Rattle.sv_lex.specs.declared.marks.Mark.{Mark as IsMark}
 use Rattle.sv_lex.specs.declared.marks.Mark.TheVariants as marks
 use Rattle.sv_lex.specs.declared.tokens.Token.{Token}
 use Rattle.sv_lex.specs.declared.tokens.TokenKind.{TokenKind}
 use Rattle.sv_lex.specs.declared.tokens.TokenKind.TheVariants.{Name, Number, Text, Mark}
-use Rattle.sv_app.specs.declared.refusals.Code.TheVariants.{Syntax, Many}
+use Rattle.sv_app.specs.declared.refusals.Code.TheVariants.{Many}
 use Rattle.sv_app.specs.declared.txns.Rel.{Rel}
 use Rattle.sv_app.specs.declared.txns.Rel.TheVariants as rels
 use Rattle.sv_app.specs.Trees.{Term, Variable, Test, Compare, Negation}
 use Rattle.sv_app.specs.Words.{is_reserved}
-use Rattle.sv_schema_reader.specs.Reading.{Read, ◌>>=◌, refuse, next, is_kind, is_next, kind_at, token_at}
+use Rattle.sv_schema_reader.specs.Reading.{Read, refuse, next, is_kind, is_next, token_at}
 use Rattle.sv_schema_reader.proofs.KindLaws.{kind_is, token_of}
-use Rattle.sv_txn_reader.specs.Grammar.{◌·◌, kind, mark, word, relation, Rank, Factors, Products, Sums, IsTerm, ANumber, AText, AVariable, AField, AnOld, ASign, AGroup, OneFactor, AProduct, OneProduct, ASum, ADifference, Join, Literals, Conjunctions, Disjunctions, IsTest, AComparison, ANegation, ABracket, OneLiteral, AnAnd, OneConjunction, AnOr}
-use Rattle.sv_txn_reader.specs.Reading.{Graded, Judged, never, relation_named, relation_in, relation_of, comparison_at, negation_at, bracket_at, literal_with, is_sign}
+use Rattle.sv_txn_reader.specs.Grammar.{◌·◌, mark, word, relation, Rank, Sums, IsTerm, ANumber, AText, AVariable, AField, AnOld, ASign, AGroup, OneFactor, AProduct, OneProduct, ASum, ADifference, Join, Literals, Disjunctions, IsTest, AComparison, ANegation, ABracket, OneLiteral, AnAnd, OneConjunction, AnOr}
+use Rattle.sv_txn_reader.specs.Reading.{Graded, Judged, never, relation_named, relation_in, relation_of, comparison_at, negation_at, bracket_at, literal_with}
 use Rattle.sv_txn_reader.proofs.ChainLaws.{Fits}
 use Rattle.sv_txn_reader.proofs.FactorLaws.{Deep, tall, a_term, adds}
-use Rattle.sv_txn_reader.proofs.Laws.{Mode, Alike, Passes, Law, map_law, read_law, anything}
+use Rattle.sv_txn_reader.proofs.Laws.{Mode, Passes, Law, map_law, read_law, anything}
 use Rattle.sv_txn_reader.proofs.LimitLaws.{depths, many_law}
-use Rattle.sv_txn_reader.proofs.PieceLaws.{next_alike, Means, leaf_law, kind_next, kind_test, Made, take, take_last, skip, skip_last, Either, Left, Right, either_law, a_name, name_token}
+use Rattle.sv_txn_reader.proofs.PieceLaws.{next_alike, leaf_law, kind_next, Made, take, take_last, skip, skip_last, Either, Left, Right, either_law, a_name, name_token}
 
 -- a condition and how much deeper it is than a comparison of names, where there is so much room
 pub record DeepTest (join : Join) (room : ℕ) (i : Bool) (g : Judged) (tokens rest : List Token) : Type 0 where
@@ -264,26 +263,34 @@ flat_law side law = map_law (read_law same
     bracket_begins token others t = let end = token_of (Mark marks.RightBracket) in record {
       more = name_token ∷ eq_token ∷ name_token ∷ end ∷ [];
       item = (Compare a_side rels.Eq a_side, 1);
-      is = λ i m free. Left (t, free, record {
-        depth = 3;
-        is = ABracket 2 (Compare a_side rels.Eq a_side) (token ∷ name_token ∷ eq_token ∷ name_token ∷ end ∷ m) (name_token ∷ eq_token ∷ name_token ∷ end ∷ m) (end ∷ m) m
-            (record { token = token; next = refl; holds = kind_is (Mark marks.LeftBracket) token.kind t }) (OneConjunction 2 _ _ _ (OneLiteral 2 _ _ _ (a_test (end ∷ m)))) (record { token = end; next = refl; holds = refl });
-        extra = refl;
-        within = inr free;
-      });
+      is = λ i m free. Left (
+        t,
+        free,
+        record {
+          depth = 3;
+          is = ABracket 2 (Compare a_side rels.Eq a_side) (token ∷ name_token ∷ eq_token ∷ name_token ∷ end ∷ m) (name_token ∷ eq_token ∷ name_token ∷ end ∷ m) (end ∷ m) m
+              (record { token = token; next = refl; holds = kind_is (Mark marks.LeftBracket) token.kind t }) (OneConjunction 2 _ _ _ (OneLiteral 2 _ _ _ (a_test (end ∷ m)))) (record { token = end; next = refl; holds = refl });
+          extra = refl;
+          within = inr free;
+        },
+      );
     }
 
     not_begins : (token : Token) (others : List Token) → negates (token ∷ others) ≡ true → Passes depths (Either FlatNot (Either FlatBracket (Sides 0))) (token ∷ [])
     not_begins token others t = record {
       more = name_token ∷ eq_token ∷ name_token ∷ [];
       item = (Negation (Compare a_side rels.Eq a_side), 1);
-      is = λ i m free. Left (t, free, record {
-        depth = 3;
-        is = ANegation 2 (Compare a_side rels.Eq a_side) (token ∷ name_token ∷ eq_token ∷ name_token ∷ m) (name_token ∷ eq_token ∷ name_token ∷ m) m
-            (record { token = token; next = refl; holds = kind_is (Name (codes "not")) token.kind t }) (a_test m);
-        extra = refl;
-        within = inr free;
-      });
+      is = λ i m free. Left (
+        t,
+        free,
+        record {
+          depth = 3;
+          is = ANegation 2 (Compare a_side rels.Eq a_side) (token ∷ name_token ∷ eq_token ∷ name_token ∷ m) (name_token ∷ eq_token ∷ name_token ∷ m) m
+              (record { token = token; next = refl; holds = kind_is (Name (codes "not")) token.kind t }) (a_test m);
+          extra = refl;
+          within = inr free;
+        },
+      );
     }
 
     into : (i : Bool) (g : Judged) (l r : List Token) → Either FlatNot (Either FlatBracket (Sides 0)) i g l r → DeepTest Literals 0 i g l r

@@ -1,14 +1,14 @@
 -- An operator and what stands behind it.
-use Rattle.std.proofs.Common.{◌≡◌, ◌∙◌, ℕ, zero, suc, ◌<◌, ◌≤◌, ◌⊎◌, inl, inr, Bool, true, false, List, [], ◌∷◌, ◌++◌, Ok, refl, sym, ap, subst, arith, max}
+use Rattle.std.proofs.Common.{◌≡◌, ℕ, suc, ◌<◌, ◌≤◌, inl, inr, Bool, true, List, [], ◌∷◌, ◌++◌, Ok, refl, ap, arith, max}
 use Rattle.sv_lex.specs.declared.tokens.Token.{Token}
 use Rattle.sv_lex.specs.declared.tokens.TokenKind.{TokenKind}
-use Rattle.sv_schema_reader.specs.Reading.{Read, ◌>>=◌, is_next, is_kind, kind_at}
+use Rattle.sv_schema_reader.specs.Reading.{Read, ◌>>=◌, is_next, kind_at}
 use Rattle.sv_schema_reader.proofs.KindLaws.{kind_is}
 use Rattle.sv_txn_reader.specs.Grammar.{◌·◌, kind}
-use Rattle.sv_txn_reader.proofs.ChainLaws.{Fits, Step, Chain}
-use Rattle.sv_txn_reader.proofs.Laws.{Alike, Passes, Law, map_law}
+use Rattle.sv_txn_reader.proofs.ChainLaws.{Fits, Step}
+use Rattle.sv_txn_reader.proofs.Laws.{Passes, Law, map_law}
 use Rattle.sv_txn_reader.proofs.LimitLaws.{depths}
-use Rattle.sv_txn_reader.proofs.PieceLaws.{next_alike, kind_next, Made, take_last, skip}
+use Rattle.sv_txn_reader.proofs.PieceLaws.{kind_next, Made, take_last, skip}
 
 -- what is joined to something by an operator
 pub record Joined {E : Type 0} (k : TokenKind) (join : E → E → E) (Operand : E × ℕ → List Token → List Token → Type 0) (a m : E × ℕ) (tokens rest : List Token) : Type 0 where

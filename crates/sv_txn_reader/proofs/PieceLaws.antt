@@ -1,13 +1,12 @@
 -- Single tokens, parts one behind another, limits, and turns.
-use Rattle.std.proofs.Common.{◌≡◌, ◌∙◌, ℕ, zero, suc, ◌<◌, ◌≤◌, ◌⊎◌, inl, inr, Bool, true, false, not, ◌&&◌, if◌then◌else◌, nat_le, List, [], ◌∷◌, ◌++◌, length, Option, Some, None, Ok, Err, refl, sym, ap, subst, arith, append_assoc, append-nil, cond, codes}
-use Rattle.std.proofs.lemmas.Bool.Decides.{nat_tests}
+use Rattle.std.proofs.Common.{◌≡◌, ◌∙◌, ℕ, zero, suc, ◌<◌, ◌⊎◌, inl, inr, Bool, true, false, if◌then◌else◌, List, [], ◌∷◌, ◌++◌, length, Option, Some, None, Ok, Err, refl, sym, ap, subst, arith, cond, codes}
 use Rattle.std.proofs.lemmas.List.{length-append}
 use Rattle.sv_value.specs.declared.spots.Spot.{Spot}
 use Rattle.sv_lex.specs.declared.tokens.Token.{Token}
 use Rattle.sv_lex.specs.declared.tokens.TokenKind.{TokenKind}
 use Rattle.sv_lex.specs.declared.tokens.TokenKind.TheVariants.{Name}
 use Rattle.sv_app.specs.declared.apps.Ident.{Ident}
-use Rattle.sv_app.specs.declared.refusals.Code.TheVariants.{Syntax, Many}
+use Rattle.sv_app.specs.declared.refusals.Code.TheVariants.{Syntax}
 use Rattle.sv_app.specs.Words.{is_reserved}
 use Rattle.sv_schema_reader.specs.declared.faults.Fault.{Fault}
 use Rattle.sv_schema_reader.specs.Reading.{Read, ◌>>=◌, refuse, given, next, is_next, is_kind, is_some, found_at, token_at, kind_at, name_of, name_at, is_name, turns_from, turns_at}
@@ -17,7 +16,7 @@ use Rattle.sv_schema_reader.proofs.PartLaws.{name_is, is_named}
 use Rattle.sv_txn_reader.specs.Grammar.{Pair, ◌·◌, One, nothing, kind, IsName, name, Within, limit}
 use Rattle.sv_txn_reader.specs.Grammar as grammar
 use Rattle.sv_txn_reader.specs.Reading.{keep}
-use Rattle.sv_txn_reader.proofs.Laws.{Mode, Alike, alike_same, alike_behind, alike_whole, Same, same_read, bound, bound_err, Bound, then_ok, then_err, Opens, Passes, Took, Stuck, Cause, Misplaced, TooMany, Exceeds, Reads, Law, anything, exceeds_same, reads_same, map_law, read_law, clash_law, Then, then_law, took_then, stuck_first, stuck_second, reads_then, took_map, stuck_map, opens_map, passes_map}
+use Rattle.sv_txn_reader.proofs.Laws.{Mode, Alike, same_read, bound, bound_err, Bound, then_ok, then_err, Opens, Took, Stuck, Misplaced, Reads, Law, anything, reads_same, map_law, Then, then_law, took_then, stuck_first, stuck_second, reads_then, took_map, stuck_map, opens_map}
 
 pub next_alike : (test : Token → Bool) (a b : List Token) → Alike a b → next test a ≡ next test b
 next_alike test [] [] alike = refl

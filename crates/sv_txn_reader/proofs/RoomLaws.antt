@@ -1,12 +1,12 @@
 -- Reading where there is some room, and one turn more of an expression or a condition.
-use Rattle.std.proofs.Common.{◌≡◌, ◌∙◌, ℕ, zero, suc, ◌<◌, ◌≤◌, ◌-◌, Bool, true, false, List, length, Ok, Err, refl, sym, ap, subst, arith, codes}
+use Rattle.std.proofs.Common.{◌≡◌, ℕ, zero, suc, ◌<◌, ◌≤◌, ◌-◌, true, false, List, length, Ok, Err, refl, ap, subst, arith}
 use Rattle.sv_lex.specs.declared.marks.Mark.TheVariants as marks
 use Rattle.sv_lex.specs.declared.tokens.Token.{Token}
-use Rattle.sv_lex.specs.declared.tokens.TokenKind.TheVariants.{Name, Mark}
+use Rattle.sv_lex.specs.declared.tokens.TokenKind.TheVariants.{Mark}
 use Rattle.sv_schema_reader.specs.declared.faults.Fault.{Fault}
-use Rattle.sv_schema_reader.specs.Reading.{Read, is_next, turns_at}
+use Rattle.sv_schema_reader.specs.Reading.{is_next, turns_at}
 use Rattle.sv_txn_reader.specs.Grammar.{Products}
-use Rattle.sv_txn_reader.specs.Reading.{Graded, Judged, keep, factor_with, factor_at, factor_below, products_with, products_at, products_below, sums_with, sums_at, sums_below, product_turn, sum_turn, is_sign}
+use Rattle.sv_txn_reader.specs.Reading.{Graded, keep, factor_with, factor_at, factor_below, products_with, products_at, products_below, sums_with, sums_at, sums_below, product_turn, sum_turn, is_sign}
 use Rattle.sv_txn_reader.proofs.ChainLaws.{chain_turning}
 use Rattle.sv_txn_reader.proofs.FactorLaws.{Inside, Flat, Nested, Deep, multiplies}
 use Rattle.sv_txn_reader.proofs.Laws.{Law}

@@ -1,5 +1,5 @@
 -- Statements without blocks.
-use Rattle.std.proofs.Common.{◌≡◌, ◌∙◌, ℕ, suc, ◌<◌, ◌≤◌, ◌⊎◌, inl, inr, Bool, true, false, not, ◌&&◌, ◌||◌, if◌then◌else◌, nat_le, nat_lt, ℤ, pos, List, [], ◌∷◌, ◌++◌, length, Option, Some, None, Ok, Err, refl, sym, ap, subst, codes, arith, cond}
+use Rattle.std.proofs.Common.{◌≡◌, ◌∙◌, ℕ, suc, ◌≤◌, inl, inr, Bool, true, false, ◌&&◌, ◌||◌, if◌then◌else◌, nat_le, nat_lt, pos, List, [], ◌∷◌, length, Option, Some, None, Ok, refl, sym, ap, subst, codes, arith}
 use Rattle.std.proofs.Math.IntN.{negsuc}
 use Rattle.std.proofs.lemmas.Bool.Decides.{nat_tests}
 use Rattle.sv_lex.specs.declared.marks.Mark.TheVariants as marks
@@ -8,20 +8,20 @@ use Rattle.sv_lex.specs.declared.tokens.TokenKind.{TokenKind}
 use Rattle.sv_lex.specs.declared.tokens.TokenKind.TheVariants.{Name, Number, Text, Mark}
 use Rattle.sv_app.specs.declared.apps.Ident.{Ident}
 use Rattle.sv_app.specs.declared.refusals.Code.TheVariants.{Syntax, Many}
-use Rattle.sv_app.specs.Trees.{Term, Command, Declare, Assign, Fetch, Choose, ForRows, ForEach, Insert, Update, Remove, Abort, Reply}
-use Rattle.sv_schema_reader.specs.Reading.{Read, ◌>>=◌, refuse, next, is_kind, is_next, is_some, name_of, is_name, name_at, kind_at, found_at, token_at}
+use Rattle.sv_app.specs.Trees.{Term, Command, Declare, Assign, Fetch, Insert, Update, Remove, Abort, Reply}
+use Rattle.sv_schema_reader.specs.Reading.{Read, ◌>>=◌, refuse, is_kind, is_some, name_of, is_name, kind_at, found_at, token_at}
 use Rattle.sv_schema_reader.proofs.KindLaws.{token_of}
 use Rattle.sv_txn_reader.specs.declared.counts.Counts.{Counts}
-use Rattle.sv_txn_reader.specs.Grammar.{◌·◌, nothing, kind, mark, word, name, limit, Within, expr, separated, index, setting, code}
-use Rattle.sv_txn_reader.specs.Reading.{Counted, is_sign, natural_in, natural, natural_of, passes, is_large, let_at, assign_at, get_at, insert_at, update_at, remove_at, abort_at, reply_at, setting_at, expr_at}
+use Rattle.sv_txn_reader.specs.Grammar.{◌·◌, kind, mark, word, name, limit, Within, expr, separated, index, setting, code}
+use Rattle.sv_txn_reader.specs.Reading.{Counted, natural, natural_of, passes, is_large, let_at, assign_at, get_at, insert_at, update_at, remove_at, abort_at, reply_at, setting_at, expr_at}
 use Rattle.sv_txn_reader.specs.Standing.{counts, plus}
 use Rattle.sv_txn_reader.proofs.ExprLaws.{expr_law}
 use Rattle.sv_txn_reader.proofs.FactorLaws.{adds}
 use Rattle.sv_txn_reader.proofs.HeadLaws.{name_misplaced, name_read}
-use Rattle.sv_txn_reader.proofs.Laws.{Mode, Alike, Passes, Law, map_law, read_law, anything, then_ok, then_err}
-use Rattle.sv_txn_reader.proofs.LimitLaws.{places, many_law, Limited, limited_law, Goes, Short, Full}
+use Rattle.sv_txn_reader.proofs.Laws.{Passes, Law, map_law, read_law, anything}
+use Rattle.sv_txn_reader.proofs.LimitLaws.{places, many_law, Limited, limited_law, Goes, Short}
 use Rattle.sv_txn_reader.proofs.ListLaws.{joins, index_law, setting_law, values_law, sets_law}
-use Rattle.sv_txn_reader.proofs.PieceLaws.{next_alike, Means, leaf_law, kind_next, name_law, name_next, Made, take, take_last, skip, skip_last, Either, Left, Right, name_token}
+use Rattle.sv_txn_reader.proofs.PieceLaws.{next_alike, Means, leaf_law, name_law, name_next, Made, take, skip, skip_last, Either, Left, Right}
 
 abbrev joins_kind : TokenKind → Bool
 joins_kind k = ((is_kind (Mark marks.Dot) k || is_kind (Mark marks.Star) k) || (is_kind (Mark marks.Plus) k || is_kind (Mark marks.Minus) k)) || is_kind (Mark marks.Comma) k
@@ -62,13 +62,27 @@ let_rest n l = setting_at l >>= λ s r2. kind_at (Mark marks.Semi) r2 >>= λ _ r
 pub let_law : (clash : List Token → Bool) (n : Counts) → Law places clash (Made (let_of n) (λ i x. word (codes "let") · limit i 32 (suc n.variables) · SetWords i x)) (let_at n)
 unfolding let_at let_rest setting_at
 let_law clash n = skip (Name (codes "let")) (let_of n) (limited_made 32 n.variables (let_of n)
-    (limited_law is_name 32 n.variables (next_alike (λ token. is_some (name_of token))) refl rest_law (λ i a l r m. set_first i m.«from» l r m.is) misplaced begins))
+    (read_law same (limited_law is_name 32 n.variables (next_alike (λ token. is_some (name_of token))) refl rest_law (λ i a l r m. set_first i m.«from» l r m.is) misplaced begins)))
   where
     rest_law : Law places clash (Made (let_of n) SetWords) (let_rest n)
     rest_law = take (λ (s : Ident × Term) (_ : Unit {0}). let_of n (s, tt)) setting_law (λ s. skip_last places clash (Mark marks.Semi) (let_of n (s, tt))) (λ i a t l r is clear. semi_adds l r is)
 
     misplaced : (l : List Token) → is_name l ≡ false → let_rest n l ≡ refuse Syntax l
     misplaced l e = ap (λ (x : Read Ident). (x >>= λ x r1. kind_at (Mark marks.Eq) r1 >>= λ _ r2. expr_at r2 >>= λ e r3. Ok ((x, e), r3)) >>= λ s r2. kind_at (Mark marks.Semi) r2 >>= λ _ r3. Ok (let_of n (s, tt), r3)) (name_misplaced l e)
+
+    asked : Bool → Bool → List Token → Read Counted
+    asked b c l = if b && c then refuse Many l else let_rest n l
+
+    direct : Bool → Bool → List Token → Read Counted
+    direct b c l = if b then (if c then refuse Many l else let_rest n l) else refuse Syntax l
+
+    same : (l : List Token) → direct (is_name l) (nat_le 32 n.variables) l ≡ asked (is_name l) (nat_le 32 n.variables) l
+    same l = by_tests (is_name l) (nat_le 32 n.variables) refl
+      where
+        by_tests : (b c : Bool) → is_name l ≡ b → direct b c l ≡ asked b c l
+        by_tests true true t = refl
+        by_tests true false t = refl
+        by_tests false c t = sym (misplaced l t)
 
     begins : (token : Token) (others : List Token) → is_name (token ∷ others) ≡ true → Goes token (let_rest n (token ∷ []))
     begins token others t = Short (ap (λ (x : Read Ident). (x >>= λ x r1. kind_at (Mark marks.Eq) r1 >>= λ _ r2. expr_at r2 >>= λ e r3. Ok ((x, e), r3)) >>= λ s r2. kind_at (Mark marks.Semi) r2 >>= λ _ r3. Ok (let_of n (s, tt), r3)) (name_read token [] t).1)

@@ -1,9 +1,9 @@
 -- Reading conditions where there is some room, and one turn more of them.
-use Rattle.std.proofs.Common.{◌≡◌, ◌∙◌, ℕ, zero, suc, ◌<◌, ◌≤◌, ◌-◌, Bool, true, false, List, length, Ok, Err, refl, sym, ap, subst, arith, codes}
+use Rattle.std.proofs.Common.{◌≡◌, ◌∙◌, ℕ, zero, suc, ◌<◌, ◌≤◌, ◌-◌, true, false, List, length, Ok, Err, refl, sym, ap, subst, arith, codes}
 use Rattle.sv_lex.specs.declared.tokens.Token.{Token}
 use Rattle.sv_lex.specs.declared.tokens.TokenKind.TheVariants.{Name}
 use Rattle.sv_schema_reader.specs.declared.faults.Fault.{Fault}
-use Rattle.sv_schema_reader.specs.Reading.{Read, is_next, turns_at}
+use Rattle.sv_schema_reader.specs.Reading.{is_next, turns_at}
 use Rattle.sv_txn_reader.specs.Grammar.{Conjunctions}
 use Rattle.sv_txn_reader.specs.Reading.{Judged, keep, sums_at, literal_with, literal_at, literal_below, and_turn, conjunctions_with, conjunctions_at, conjunctions_below, or_turn, disjunctions_with, disjunctions_at, disjunctions_below}
 use Rattle.sv_txn_reader.proofs.ChainLaws.{chain_turning}

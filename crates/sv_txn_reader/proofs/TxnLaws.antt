@@ -1,5 +1,5 @@
 -- Transactions.
-use Rattle.std.proofs.Common.{◌≡◌, ◌∙◌, ℕ, zero, suc, ◌+◌, ◌<◌, ◌≤◌, ◌⊎◌, inl, inr, Bool, true, false, not, ◌&&◌, ◌||◌, if◌then◌else◌, nat_le, List, [], ◌∷◌, ◌++◌, length, Option, Some, None, Ok, Err, refl, sym, ap, subst, codes, arith, cond, bytes_eq, append_assoc, append-nil}
+use Rattle.std.proofs.Common.{◌≡◌, ◌∙◌, ℕ, suc, ◌<◌, inl, Bool, true, false, not, ◌&&◌, ◌||◌, if◌then◌else◌, nat_le, List, [], ◌∷◌, ◌++◌, length, Option, Some, None, Ok, Err, refl, sym, ap, subst, codes, arith, bytes_eq, append_assoc, append-nil}
 use Rattle.std.proofs.lemmas.List.{length-append}
 use Rattle.std.proofs.lemmas.Slice.Eq.{bytes_eq-Decides}
 use Rattle.sv_value.specs.declared.spots.Spot.{Spot}
@@ -15,16 +15,16 @@ use Rattle.sv_app.specs.Trees.{Transaction, block_from}
 use Rattle.sv_schema_reader.specs.declared.faults.Fault.{Fault}
 use Rattle.sv_schema_reader.specs.Reading.{Read, ◌>>=◌, refuse, by_word, given, found_at, next, is_kind, is_next, is_some, name_of, is_name, name_at, kind_at, token_at, turns_at}
 use Rattle.sv_schema_reader.proofs.KindLaws.{kind_is, token_of}
-use Rattle.sv_txn_reader.specs.Grammar.{Pair, ◌·◌, nothing, kind, mark, word, name, limit, Within, block, type_word, param, more_params, params, transaction, transactions}
+use Rattle.sv_txn_reader.specs.Grammar.{◌·◌, nothing, mark, word, name, block, type_word, param, more_params, params, transaction, transactions}
 use Rattle.sv_txn_reader.specs.Reading.{Several, keep, type_named, param_at, params_at, item_turn, list_of, block_at, txn_at, begins_txn, txn_step, txns_at}
 use Rattle.sv_txn_reader.specs.Standing.{counts, outside, plus, block_counts}
 use Rattle.sv_txn_reader.proofs.BlockLaws.{as_kind, block_law}
 use Rattle.sv_txn_reader.proofs.CommandLaws.{Blk, commands_of, from_commands}
-use Rattle.sv_txn_reader.proofs.HeadLaws.{kind_read, name_misplaced, name_read}
-use Rattle.sv_txn_reader.proofs.Laws.{Mode, Alike, Law, map_law, read_law, clash_law, anything, then_ok, then_err}
-use Rattle.sv_txn_reader.proofs.LimitLaws.{places, Limited, limited_law, Goes, Short, Full}
+use Rattle.sv_txn_reader.proofs.HeadLaws.{name_misplaced, name_read}
+use Rattle.sv_txn_reader.proofs.Laws.{Law, map_law, read_law, clash_law, anything, then_ok, then_err}
+use Rattle.sv_txn_reader.proofs.LimitLaws.{places, Limited, limited_law, Goes, Short}
 use Rattle.sv_txn_reader.proofs.ListLaws.{Listed, more_items, list_law, item_turning, or_false}
-use Rattle.sv_txn_reader.proofs.PieceLaws.{next_alike, Means, leaf_law, kind_next, name_law, name_next, Made, take, take_last, skip, ended, Either, Left, Right, either_law, Turns, Stop, Turn, Turning, lawful_turning, turns_law, shorter, stopped, turn_read, turn_err, turn_end}
+use Rattle.sv_txn_reader.proofs.PieceLaws.{next_alike, leaf_law, kind_next, name_law, name_next, Made, take, take_last, skip, ended, Either, Left, Right, either_law, Turns, Stop, Turn, Turning, lawful_turning, turns_law, shorter, stopped, turn_read, turn_err, turn_end}
 
 -- types of parameters
 

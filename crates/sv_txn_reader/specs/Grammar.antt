@@ -1,6 +1,6 @@
 -- The grammar of transactions: a part is written with the tokens from its place on, up to those that are the rest.
 -- An element that begins where at most `free` tokens are left may pass a limit; with `free` 0 none may.
-use Rattle.std.specs.Prelude.{◌≡◌, ◌≤◌, ◌⊎◌, ℕ, ℤ, suc, ◌+◌, max, pos, Bool, true, false, List, [], ◌∷◌, length, Option, Some, None, codes}
+use Rattle.std.specs.Prelude.{◌≡◌, ◌≤◌, ◌⊎◌, ℕ, ℤ, suc, max, pos, false, List, [], ◌∷◌, length, Option, Some, None, codes}
 use Rattle.sv_value.specs.declared.spots.Spot.{Spot}
 use Rattle.sv_lex.specs.declared.marks.Mark.{Mark as IsMark}
 use Rattle.sv_lex.specs.declared.marks.Mark.TheVariants as marks

@@ -1,5 +1,5 @@
 -- Reading transactions from left to right: what some tokens begin with, and the tokens behind it.
-use Rattle.std.specs.Prelude.{◌≡◌, ℕ, zero, suc, ◌-◌, ℤ, pos, max, Bool, true, false, not, ◌&&◌, ◌||◌, if◌then◌else◌, nat_le, nat_lt, List, [], ◌∷◌, ◌++◌, length, Option, Some, None, Result, Ok, Err, bytes_eq, codes}
+use Rattle.std.specs.Prelude.{◌≡◌, ℕ, zero, suc, ℤ, pos, max, Bool, true, false, not, ◌&&◌, ◌||◌, if◌then◌else◌, nat_le, nat_lt, List, [], ◌∷◌, ◌++◌, length, Option, Some, None, Ok, Err, bytes_eq, codes}
 use Rattle.sv_value.specs.declared.spots.Spot.{Spot}
 use Rattle.sv_lex.specs.declared.marks.Mark.{Mark as IsMark}
 use Rattle.sv_lex.specs.declared.marks.Mark.TheVariants as marks
@@ -15,7 +15,7 @@ use Rattle.sv_app.specs.declared.txns.Rel.TheVariants as rels
 use Rattle.sv_app.specs.Trees.{Term, Test, Command, Block, Transaction, block_from}
 use Rattle.sv_app.specs.Trees as trees
 use Rattle.sv_app.specs.Words.{is_reserved}
-use Rattle.sv_schema_reader.specs.Reading.{Read, ◌>>=◌, refuse, given, is_next, is_kind, next, is_some, kind_at, name_at, is_name, token_at, turns_at, by_word}
+use Rattle.sv_schema_reader.specs.Reading.{Read, ◌>>=◌, refuse, given, is_next, is_kind, next, kind_at, name_at, is_name, token_at, turns_at, by_word}
 use Rattle.sv_txn_reader.specs.declared.counts.Counts.{Counts}
 use Rattle.sv_txn_reader.specs.declared.heads.Head.{Head}
 use Rattle.sv_txn_reader.specs.declared.heads.Head.TheVariants as heads
@@ -281,8 +281,8 @@ Blocks = Bool → Counts → List Token → Read Several
 
 unfoldable pub let_at : Counts → List Token → Read Counted
 let_at n tokens =
-    kind_at (Name (codes "let")) tokens >>= λ _ r1. if is_name r1 && nat_le 32 n.variables then refuse Many r1
-    else (setting_at r1 >>= λ s r2. kind_at (Mark marks.Semi) r2 >>= λ _ r3. Ok ((trees.Declare s.0 s.1, plus n (counts 0 0 1)), r3))
+    kind_at (Name (codes "let")) tokens >>= λ _ r1. if is_name r1 then (if nat_le 32 n.variables then refuse Many r1
+    else (setting_at r1 >>= λ s r2. kind_at (Mark marks.Semi) r2 >>= λ _ r3. Ok ((trees.Declare s.0 s.1, plus n (counts 0 0 1)), r3))) else refuse Syntax r1
 
 unfoldable pub assign_at : List Token → Read Command
 assign_at tokens = setting_at tokens >>= λ s r1. kind_at (Mark marks.Semi) r1 >>= λ _ r2. Ok (trees.Assign s.0 s.1, r2)

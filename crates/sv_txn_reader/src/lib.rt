@@ -3,13 +3,19 @@
 #![tactic(auto)]
 
 mod beginnings;
+mod blocks;
 mod conditions;
 mod counts;
 mod graded;
 mod heads;
 mod reading;
+mod statements;
 mod terms;
+mod txns;
 mod values;
 
 pub use counts::Counts;
 pub use reading::read_txns;
+
+#[cfg(test)]
+mod tests;

@@ -4,12 +4,38 @@ ghost use Rattle.sv_app.specs.declared.refusals.Stop.TheVariants.{Refused};
 ghost use Rattle.sv_app.specs.Trees.{Transaction, transactions_of};
 ghost use Rattle.sv_app.specs.TxnConditions.{KeepsTxnGrammar, KeepsTxnLimits};
 ghost use Rattle.sv_lex.specs.declared.tokens.Token.{Token as IsToken};
+ghost use Rattle.sv_schema_reader.specs.declared.faults.Fault.{Fault as IsFault};
+ghost use Rattle.sv_schema_reader.specs.declared.faults.Halt.TheVariants.{Faulty};
+ghost use Rattle.sv_schema_reader.specs.Refused.{spot_of};
+ghost use Rattle.sv_txn_reader.specs.Reading.{IsLeft, txns_at};
 ghost use Rattle.sv_txn_reader.specs.Refused.{AreRead, IsRefused, IsAnswer};
 
+use crate::txns::txns;
 use std::alloc::Global;
-use sv_app::{Stop, Txn};
+use sv_app::{Refusal, Stop, Txn};
 use sv_lex::Token;
+use sv_schema_reader::{Halt, Reader};
 use sv_value::Spot;
+
+/// Where the first of the last `left` tokens stands; the end of the document, if there is none.
+fn spot_of(tokens: &[Token], end: Spot, left: usize) -> Spot
+    ensures { result ≡ spot_of end (drop (length tokens.now - left) tokens.now) }
+{
+    match tokens.get(tokens.len().saturating_sub(left)) {
+        Some(token) => token.spot,
+        None => end,
+    }
+}
+
+/// The transactions that stand at the front of the tokens, and how many tokens are left behind them.
+fn read_front(alloc: Global, tokens: &[Token]) -> Result<(Vec<Txn>, usize), Halt>
+    ensures read { IfOk result (λ read. IsLeft (txns_at tokens.now) (transactions_of read.0.items) read.1) }
+    ensures fault { (fault : IsFault) → result ≡ Err (Faulty fault) → txns_at tokens.now ≡ Err fault }
+{
+    let mut reader = Reader { rest: tokens };
+    let txns = txns(alloc, &mut reader)?;
+    Ok((txns, reader.rest.len()))
+}
 
 /// Reads the transactions that stand from the place `at` on, up to a token that begins none; there may be none at all.
 /// The answer has the place of this token. `end` is the place behind the last byte of the document.
@@ -37,5 +63,12 @@ pub fn read_txns(
     // a refusal stands where the grammar and the limits place it
     ensures refused { (refusal : IsRefusal) → result ≡ Err (Refused refusal) → IsRefused (drop at tokens.now) end refusal }
 {
-    Err(Stop::NoMemory)
+    match read_front(alloc, &tokens[at..]) {
+        Ok((txns, left)) => Ok((txns, tokens.len() - left)),
+        Err(Halt::Faulty(fault)) => Err(Stop::Refused(Refusal {
+            spot: spot_of(&tokens[at..], end, fault.left),
+            code: fault.code,
+        })),
+        Err(Halt::NoMemory) => Err(Stop::NoMemory),
+    }
 }

@@ -267,12 +267,7 @@ fn products(alloc: Global, reader: &mut Reader<'_>, room: usize) -> Result<Grade
 /// Reads a sign and what it joins to an expression.
 #[cycle(terms)]
 #[tactic(auto, unfolding(crate::specs::Reading::joined_at), using(crate::proofs::RoomLaws::products_below_is))]
-fn joined(
-    alloc: Global,
-    reader: &mut Reader<'_>,
-    left: Graded,
-    room: usize,
-) -> Result<Graded, Halt>
+fn joined(alloc: Global, reader: &mut Reader<'_>, left: Graded, room: usize) -> Result<Graded, Halt>
     requires some { left.extra < room }
     requires small { room ≤ 16 }
     ensures read { Reads (λ e. (term_of e.expr, e.extra)) result reader.new.rest.now (joined_at (products_below room) (term_of left.expr, left.extra) reader.old.rest.now) }
@@ -295,12 +290,7 @@ fn joined(
 /// Reads one more product of a sum or a difference.
 #[cycle(terms)]
 #[tactic(auto, unfolding(crate::specs::Reading::sum_turn))]
-fn added(
-    alloc: Global,
-    reader: &mut Reader<'_>,
-    left: Graded,
-    room: usize,
-) -> Result<Graded, Halt>
+fn added(alloc: Global, reader: &mut Reader<'_>, left: Graded, room: usize) -> Result<Graded, Halt>
     requires small { room ≤ 16 }
     ensures read { Reads (λ e. (term_of e.expr, e.extra)) result reader.new.rest.now (sum_turn room (products_below room) (term_of left.expr, left.extra) reader.old.rest.now) }
     ensures fits { IfOk result (λ e. e.extra ≤ room) }

@@ -1,4 +1,4 @@
-use Rattle.std.proofs.Common.{◌≡◌, sym}
+use Rattle.std.proofs.Common.{sym}
 use Rattle.sv_app.specs.Trees.{test_of}
 use Rattle.sv_txn_reader.proofs.TestRoomLaws.{and_done, or_done}
 use Rattle.sv_txn_reader.proofs.conditions.+conditions.Goals as goal
