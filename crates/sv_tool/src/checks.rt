@@ -8,9 +8,9 @@ ghost use Rattle.sv_lex.specs.Lexers.{fault_of};
 ghost use Rattle.sv_lex.specs.Spots.{spot_at};
 ghost use Rattle.sv_lex.specs.Standing.{place_of};
 ghost use Rattle.sv_app.specs.Acceptance.{IsAccepted};
-ghost use Rattle.sv_app.specs.Conditions.{KeepsLimits};
+ghost use Rattle.sv_app.specs.Conditions.{KeepsGrammar, KeepsLimits, AreNumbered};
 ghost use Rattle.sv_app.specs.Trees.{Transaction, transactions_of};
-ghost use Rattle.sv_app.specs.TxnConditions.{KeepsTxnLimits};
+ghost use Rattle.sv_app.specs.TxnConditions.{KeepsTxnGrammar, KeepsTxnLimits};
 ghost use Rattle.sv_tool.specs.CheckText.{has_invariant, early_refusal, AreBehind, AreAccepted, IsLater, IsRefusalBehind, IsRefusal, sizes_of, sizes_in, IsAcceptedAs, code_of, IsDocument, accepted_with, refused_with, IsCheckAnswer};
 ghost use Rattle.sv_tool.specs.ReadDocument.{said_by};
 
@@ -71,8 +71,11 @@ fn accept_read(
     txns: Vec<Txn>,
     rest: &[Token],
 ) -> Result<App, Stop>
+    requires grammar { KeepsGrammar (schema_of tables.items) }
     requires limits { KeepsLimits (schema_of tables.items) }
-    requires small { KeepsTxnLimits (transactions_of txns.items) }
+    requires invariants { AreNumbered (schema_of tables.items) }
+    requires txn_grammar { KeepsTxnGrammar (transactions_of txns.items) }
+    requires txn_limits { KeepsTxnLimits (transactions_of txns.items) }
     ensures plain { IfOk result (λ app. early_refusal (schema_of tables.items) rest.now ≡ None) }
     ensures accepted { IfOk result (λ app. IsAccepted (schema_of tables.items) (transactions_of txns.items)) }
     ensures sizes { IfOk result (λ app. sizes_in app ≡ sizes_of (schema_of tables.items) (transactions_of txns.items)) }
@@ -97,7 +100,9 @@ fn check_behind(
     at: usize,
 ) -> Result<App, Stop>
     requires place { at ≤ length tokens.now }
+    requires grammar { KeepsGrammar (schema_of tables.items) }
     requires limits { KeepsLimits (schema_of tables.items) }
+    requires invariants { AreNumbered (schema_of tables.items) }
     ensures accepted { IfOk result (λ app. (txns : List Transaction) × AreBehind (schema_of tables.items) (drop at tokens.now) txns × (sizes_in app ≡ sizes_of (schema_of tables.items) txns)) }
     ensures refused { (refusal : RefusalValue) → result ≡ Err (Refused refusal) → IsRefusalBehind (schema_of tables.items) (drop at tokens.now) end refusal }
     ensures all { (txns : List Transaction) → AreBehind (schema_of tables.items) (drop at tokens.now) txns → IsAcceptedAs result (sizes_of (schema_of tables.items) txns) }
