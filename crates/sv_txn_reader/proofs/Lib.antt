@@ -2,12 +2,14 @@ pub mod BlockLaws
 pub mod BlockRoomLaws
 pub mod ChainLaws
 pub mod CommandLaws
+pub mod DepthLaws
 pub mod ExprLaws
 pub mod FactorLaws
-pub mod Laws
-pub mod LeafLaws
 pub mod FoundLaws
 pub mod HeadLaws
+pub mod KeptLaws
+pub mod Laws
+pub mod LeafLaws
 pub mod LimitLaws
 pub mod ListLaws
 pub mod LiteralLaws

@@ -5,6 +5,7 @@ use Rattle.sv_schema_reader.proofs.FoundLaws.{whole_drop}
 use Rattle.sv_txn_reader.specs.Reading.{IsLeft, txns_at}
 use Rattle.sv_txn_reader.specs.Refused.{IsRefused}
 use Rattle.sv_txn_reader.proofs.FoundLaws.{FoundAt, found_at, refused, refused_none}
+use Rattle.sv_txn_reader.proofs.KeptLaws.{read_grammar, read_limits}
 use Rattle.sv_txn_reader.proofs.reading.read_txns.Goals as goal
 
 found_here : (c : goal.In-Ok) → FoundAt c.args.tokens.now c.args.at (transactions_of c.in-Ok.txns.items) c.in-Ok.left
@@ -22,6 +23,12 @@ returns-in-Ok-clause-place c = ((found_here c).behind, omega arith)
 
 pub returns-in-Ok-clause-read : goal.returns-in-Ok-clause-read
 returns-in-Ok-clause-read c = (found_here c).is
+
+pub returns-in-Ok-clause-grammar : goal.returns-in-Ok-clause-grammar
+returns-in-Ok-clause-grammar c = read_grammar (transactions_of c.in-Ok.txns.items) _ _ (found_here c).is
+
+pub returns-in-Ok-clause-limits : goal.returns-in-Ok-clause-limits
+returns-in-Ok-clause-limits c = read_limits (transactions_of c.in-Ok.txns.items) _ _ (found_here c).is
 
 pub returns-in-Ok-clause-all : goal.returns-in-Ok-clause-all
 returns-in-Ok-clause-all c = (found_here c).all
