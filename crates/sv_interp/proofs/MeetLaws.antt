@@ -1,20 +1,19 @@
 -- Which keys of present rows meet a condition.
-use Rattle.std.proofs.Common.{◌≡◌, ℕ, Bool, true, false, List, [], ◌∷◌, ◌++◌, Option, Some, None, refl, sym, ap, subst, ◌∙◌}
+use Rattle.std.proofs.Common.{◌≡◌, ℕ, Bool, List, [], ◌∷◌, ◌++◌, Option, Some, None, refl, sym, ap, ◌∙◌}
 use Rattle.std.specs.FinMap.{get}
 use Rattle.sv_value.specs.declared.values.Key.{Key}
 use Rattle.sv_app.specs.declared.gots.Got.{Got}
 use Rattle.sv_app.specs.declared.places.Place.{Place}
 use Rattle.sv_app.specs.Tables.{Tables}
 use Rattle.sv_app.specs.Trees.{Test}
-use Rattle.sv_effect.specs.Agrees.{is_present}
 use Rattle.sv_effect.specs.Follows.{Follows}
 use Rattle.sv_effect.specs.Reads.{ReadValue}
 use Rattle.sv_effect.specs.Run.{with_row, values_at, kept_if, meeting_test, meeting, only, present_keys}
-use Rattle.sv_effect.specs.RunValues.{Scope as RunScope, Evaluated, Leaves, Gives, then_value, truth_of}
+use Rattle.sv_effect.specs.RunValues.{Scope as RunScope, Evaluated, Gives, then_value, truth_of}
 use Rattle.sv_effect.proofs.FollowLaws as follow
 use Rattle.sv_interp.specs.declared.scopes.Scope.{Scope}
 use Rattle.sv_interp.specs.declared.states.OwnRow.{OwnRow}
-use Rattle.sv_interp.specs.Keys.{Walks, Walked}
+use Rattle.sv_interp.specs.Keys.{Walked}
 use Rattle.sv_interp.specs.Machine.{over, own_rows, scope_of, evaluated}
 use Rattle.sv_interp.proofs.KeyLaws.{walk_keys}
 
@@ -50,7 +49,7 @@ pub rest_leaves : (o m n : Option Tables) (a b c : Option (List ReadValue)) (own
     → Follows o n a c (λ t. meeting_test r table test (over own t) ks (scope_of s) ≡ evaluated {A = List Key} None w)
 rest_leaves o m n a b c own r table test k rest ks s u w holds h met e f z g y =
     follow.next_to o m n a b c _ _ _ f g (λ t x q. ap (λ l. meeting_test r table test (over own t) l (scope_of s)) e ∙ ap (λ v. then_value v (rest_of r table test (over own t) k rest)) (x ∙ ap (λ d. evaluated d u) z)
-      ∙ ap (λ v. then_value v (λ met z. Gives (kept_if h k met) z)) (q ∙ ap (λ d. evaluated d w) y))
+    ∙ ap (λ v. then_value v (λ met z. Gives (kept_if h k met) z)) (q ∙ ap (λ d. evaluated d w) y))
 
 pub more_meet : (o m n : Option Tables) (a b c : Option (List ReadValue)) (own : List (Place × OwnRow)) (r table : ℕ) (test : Test) (k : Key) (rest ks : List Key) (s u w : Scope) (holds : Option Bool) (h : Bool) (met : Option (List Key)) (list left : List Key)
     → ks ≡ k ∷ rest → Follows o m a b (row_fact own r table test k (scope_of s) (evaluated holds u)) → holds ≡ Some h
@@ -58,7 +57,7 @@ pub more_meet : (o m n : Option Tables) (a b c : Option (List ReadValue)) (own :
     → Follows o n a c (λ t. meeting_test r table test (over own t) ks (scope_of s) ≡ evaluated (Some left) w)
 more_meet o m n a b c own r table test k rest ks s u w holds h met list left e f z g y i =
     follow.next_to o m n a b c _ _ _ f g (λ t x q. ap (λ l. meeting_test r table test (over own t) l (scope_of s)) e ∙ ap (λ v. then_value v (rest_of r table test (over own t) k rest)) (x ∙ ap (λ d. evaluated d u) z)
-      ∙ ap (λ v. then_value v (λ met z. Gives (kept_if h k met) z)) (q ∙ ap (λ d. evaluated d w) y) ∙ ap (λ l. Gives l (scope_of w)) (sym i))
+    ∙ ap (λ v. then_value v (λ met z. Gives (kept_if h k met) z)) (q ∙ ap (λ d. evaluated d w) y) ∙ ap (λ l. Gives l (scope_of w)) (sym i))
 
 pub ruleset rows_meet = (none_meet, first_leaves, rest_leaves, more_meet)
 
@@ -75,6 +74,6 @@ pub some_rows : (o m n : Option Tables) (a b c : Option (List ReadValue)) (own :
     → Follows o n a c (λ t. only (meeting r table test (over own t) (present_keys (over own t) table) (scope_of s)) ≡ met)
 some_rows o m n a b c own r table test q ks ls s u met f i e g =
     follow.next_to o m n a b c _ _ _ f g (λ t h x. ap (λ q. only (meeting r table q (over own t) (present_keys (over own t) table) (scope_of s))) e
-      ∙ ap (λ l. only (meeting_test r table q (over own t) l (scope_of s))) (sym h ∙ sym i) ∙ ap only x ∙ only_of met u)
+    ∙ ap (λ l. only (meeting_test r table q (over own t) l (scope_of s))) (sym h ∙ sym i) ∙ ap only x ∙ only_of met u)
 
 pub ruleset all_meet = (any_row, some_rows)

@@ -8,7 +8,7 @@ use Rattle.sv_value.specs.declared.values.Key.{Key}
 use Rattle.sv_value.specs.Orders.{key_cmp}
 use Rattle.sv_app.specs.declared.places.Place.{Place}
 use Rattle.sv_app.specs.Tables.{Tables}
-use Rattle.sv_effect.specs.Agrees.{is_after, is_present, IsNextKey}
+use Rattle.sv_effect.specs.Agrees.{is_after, is_present}
 use Rattle.sv_effect.specs.Follows.{Follows}
 use Rattle.sv_effect.specs.Reads.{ReadValue}
 use Rattle.sv_interp.specs.declared.states.OwnRow.{OwnRow}

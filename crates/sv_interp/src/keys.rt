@@ -141,7 +141,16 @@ pub fn met_keys<R: Rows>(
         None => Ok(Some(keys)),
         Some(test) => {
             let mut scratch = scope;
-            let met = meet(alloc, own, row, table, test, keys.items(), &mut scratch, rows)?;
+            let met = meet(
+                alloc,
+                own,
+                row,
+                table,
+                test,
+                keys.items(),
+                &mut scratch,
+                rows,
+            )?;
             Ok(met)
         }
     }
