@@ -13,6 +13,8 @@ mod scopes;
 mod slots;
 mod statements;
 mod states;
+#[cfg(test)]
+mod tests;
 mod txns;
 mod values;
 mod walks;
