@@ -3,7 +3,7 @@ use Rattle.std.proofs.Common.{◌≡◌, ◌≢◌, ℕ, Bool, true, false, cond
 use Rattle.std.proofs.lemmas.Bool.Decides.{nat_tests}
 use Rattle.std.specs.declared.cmp.Ordering.{Ordering}
 use Rattle.std.specs.declared.cmp.Ordering.TheVariants.{Less, Equal, Greater}
-use Rattle.std.specs.Ordering.{nat_cmp, ordering_then, ordering_reverse, is_lt, is_eq}
+use Rattle.std.specs.Ordering.{ordering_reverse, is_lt, is_eq}
 use Rattle.std.specs.FinMap.{find, is_sorted, entries, entries_sorted, get-entries}
 use Rattle.std.specs.FinMap.Entries.{below_all}
 use Rattle.sv_value.specs.declared.values.Key.{Key}
@@ -17,7 +17,7 @@ use Rattle.sv_effect.specs.Follows.{Follows}
 use Rattle.sv_effect.specs.Reads.{ReadValue}
 use Rattle.sv_effect.specs.Run.{keys_among, present_keys}
 use Rattle.sv_effect.proofs.FollowLaws as follow
-use Rattle.sv_interp.specs.Keys.{IsNextBy, Walks, Walked}
+use Rattle.sv_interp.specs.Keys.{Walks, Walked}
 
 clash : {P : Type 0} (b : Bool) → b ≡ true → b ≡ false → P
 clash b h k = cc

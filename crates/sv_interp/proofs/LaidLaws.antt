@@ -6,7 +6,7 @@ use Rattle.std.specs.Ordering.{is_lt, is_eq}
 use Rattle.std.specs.FinMap.{get, insert, get-insert, get-entries, entries, entries_sorted}
 use Rattle.sv_value.specs.declared.values.Key.{Key}
 use Rattle.sv_value.specs.Orders.{key_cmp}
-use Rattle.sv_value.proofs.OrderLaws.{key_total, exact_keys}
+use Rattle.sv_value.proofs.OrderLaws.{exact_keys}
 use Rattle.sv_app.specs.declared.places.Place.{Place}
 use Rattle.sv_app.specs.Tables.{place_cmp, Row, Tables}
 use Rattle.sv_app.proofs.PlaceLaws.{place_total}
@@ -15,7 +15,7 @@ use Rattle.sv_effect.specs.Run.{present_keys}
 use Rattle.sv_interp.specs.declared.states.OwnRow.{OwnRow}
 use Rattle.sv_interp.specs.Keys.{Walks, with_by, with_key, without_by, without_key, laid}
 use Rattle.sv_interp.specs.Machine.{own_row, over}
-use Rattle.sv_interp.proofs.KeyLaws.{less_of, above_of, below_of, self_of, lt_trans, later, walk_along, walk_keys, found, keys_walk, in_table, other_table}
+use Rattle.sv_interp.proofs.KeyLaws.{less_of, below_of, self_of, lt_trans, later, walk_along, walk_keys, found, keys_walk, in_table, other_table}
 
 lt_apart : (k j : Key) → is_lt (key_cmp k j) ≡ true → k ≢ j
 lt_apart k j l e = let h : key_cmp j j ≡ Less = subst (λ z. key_cmp z j ≡ Less) e (less_of _ l) in let g = self_of j _ refl in cc
@@ -30,20 +30,20 @@ with_walk j p q here other after (x ∷ xs) a h = placed (key_cmp j x) refl (λ 
   where
     placed : (o : Ordering) → key_cmp j x ≡ o → (is_lt (key_cmp x j) ≡ true → Walks q (Some x) (with_key j xs)) → Walks q after (with_by o j x xs (with_key j xs))
     placed Less e ih = let l : is_lt (key_cmp j x) ≡ true = ap is_lt e in (
-        (a, here, λ k b m. other k (lt_apart k j m) ∙ h.0.2 k b (lt_trans k j x m l)),
-        (
-          (l, other x (gt_apart x j l) ∙ h.0.1, λ k b m. other k (gt_apart k j b) ∙ h.0.2 k (later after j k a b) m),
-          walk_along p q (Some x) xs (λ k b. sym (other k (gt_apart k j (lt_trans j x k l b)))) h.1,
-        ),
-      )
+      (a, here, λ k b m. other k (lt_apart k j m) ∙ h.0.2 k b (lt_trans k j x m l)),
+      (
+        (l, other x (gt_apart x j l) ∙ h.0.1, λ k b m. other k (gt_apart k j b) ∙ h.0.2 k (later after j k a b) m),
+        walk_along p q (Some x) xs (λ k b. sym (other k (gt_apart k j (lt_trans j x k l b)))) h.1,
+      ),
+    )
     placed Equal e ih = let is : j ≡ x = exact_keys j x e in (
-        (h.0.0, subst (λ z. q z ≡ true) is here, λ k b m. other k (lt_apart k j (subst (λ z. is_lt (key_cmp k z) ≡ true) (sym is) m)) ∙ h.0.2 k b m),
-        walk_along p q (Some x) xs (λ k b. sym (other k (gt_apart k j (subst (λ z. is_lt (key_cmp z k) ≡ true) (sym is) b)))) h.1,
-      )
+      (h.0.0, subst (λ z. q z ≡ true) is here, λ k b m. other k (lt_apart k j (subst (λ z. is_lt (key_cmp k z) ≡ true) (sym is) m)) ∙ h.0.2 k b m),
+      walk_along p q (Some x) xs (λ k b. sym (other k (gt_apart k j (subst (λ z. is_lt (key_cmp z k) ≡ true) (sym is) b)))) h.1,
+    )
     placed Greater e ih = let g : is_lt (key_cmp x j) ≡ true = ap is_lt (below_of j x e) in (
-        (h.0.0, other x (lt_apart x j g) ∙ h.0.1, λ k b m. other k (lt_apart k j (lt_trans k x j m g)) ∙ h.0.2 k b m),
-        ih g,
-      )
+      (h.0.0, other x (lt_apart x j g) ∙ h.0.1, λ k b m. other k (lt_apart k j (lt_trans k x j m g)) ∙ h.0.2 k b m),
+      ih g,
+    )
 
 -- a test that fails at the key, and elsewhere is the other
 off : (j : Key) (p q : Key → Bool) → q j ≡ false → ((k : Key) → k ≢ j → q k ≡ p k) → (k : Key) (o : Ordering) → key_cmp k j ≡ o → p k ≡ false → q k ≡ false
@@ -77,15 +77,15 @@ without_walk j p q gone' other after (x ∷ xs) h = placed (key_cmp j x) refl (w
   where
     placed : (o : Ordering) → key_cmp j x ≡ o → Walks q (Some x) (without_key j xs) → Walks q after (without_by o x xs (without_key j xs))
     placed Less e ih = let l : is_lt (key_cmp j x) ≡ true = ap is_lt e in (
-        (h.0.0, other x (gt_apart x j l) ∙ h.0.1, λ k b m. off j p q gone' other k _ refl (h.0.2 k b m)),
-        walk_along p q (Some x) xs (λ k b. sym (other k (gt_apart k j (lt_trans j x k l b)))) h.1,
-      )
+      (h.0.0, other x (gt_apart x j l) ∙ h.0.1, λ k b m. off j p q gone' other k _ refl (h.0.2 k b m)),
+      walk_along p q (Some x) xs (λ k b. sym (other k (gt_apart k j (lt_trans j x k l b)))) h.1,
+    )
     placed Equal e ih = let is : j ≡ x = exact_keys j x e in
-      over_first x p q (subst (λ z. q z ≡ false) is gone') (subst (λ z. (k : Key) → k ≢ z → q k ≡ p k) is other) after xs h.0.0 h.0.2 h.1
+        over_first x p q (subst (λ z. q z ≡ false) is gone') (subst (λ z. (k : Key) → k ≢ z → q k ≡ p k) is other) after xs h.0.0 h.0.2 h.1
     placed Greater e ih = let g : is_lt (key_cmp x j) ≡ true = ap is_lt (below_of j x e) in (
-        (h.0.0, other x (lt_apart x j g) ∙ h.0.1, λ k b m. off j p q gone' other k _ refl (h.0.2 k b m)),
-        ih,
-      )
+      (h.0.0, other x (lt_apart x j g) ∙ h.0.1, λ k b m. off j p q gone' other k _ refl (h.0.2 k b m)),
+      ih,
+    )
 
 present_walk : (t : Tables) (table : ℕ) → Walks (is_present t table) None (present_keys t table)
 present_walk t table = walk_along (found table (entries t)) (is_present t table) None (present_keys t table)

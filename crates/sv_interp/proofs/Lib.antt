@@ -2,6 +2,7 @@ pub mod KeyLaws
 pub mod LaidLaws
 pub mod LookLaws
 pub mod LoopLaws
+pub mod MeetLaws
 pub mod NeedLaws
 pub mod RunLaws
 pub mod SlotLaws

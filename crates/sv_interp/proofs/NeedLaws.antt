@@ -1,6 +1,6 @@
 -- Needs that are added one after the other.
 use Rattle.std.proofs.Common.{◌≡◌, Bool, cond, ℕ, ◌<◌, ◌≤◌, ◌+◌, length, take, drop, get_or, map, List, [], ◌∷◌, ◌++◌, refl, sym, ap, ◌∙◌, append-nil, append_assoc}
-use Rattle.std.specs.List.{list_any, flat_map}
+use Rattle.std.specs.List.{list_any}
 use Rattle.std.proofs.lemmas.List.{at_drop_more, at_drop_all, take_more, map-append}
 use Rattle.std.specs.Prelude.{slice_get}
 use Rattle.sv_app.specs.Schema.{Declaration}

@@ -1,18 +1,18 @@
 -- How steps of a run follow each other.
-use Rattle.std.proofs.Common.{◌≡◌, ◌<◌, ◌≤◌, ◌+◌, length, drop, get_or, ℕ, Bool, true, false, List, [], ◌∷◌, Option, Some, None, cond, refl, sym, ap, subst, ◌∙◌}
+use Rattle.std.proofs.Common.{◌≡◌, ◌<◌, ◌≤◌, ◌+◌, length, drop, get_or, ℕ, true, false, List, Option, Some, None, cond, refl, sym, ap, subst, ◌∙◌}
 use Rattle.std.proofs.lemmas.List.{at_drop_more, at_drop_all}
 use Rattle.std.specs.FinMap.{get}
 use Rattle.sv_value.specs.declared.values.Key.{Key}
 use Rattle.sv_app.specs.declared.apps.Ident.{Ident}
 use Rattle.sv_app.specs.declared.places.Place.{Place}
-use Rattle.sv_app.specs.Tables.{Row, Tables}
-use Rattle.sv_app.specs.Trees.{Term, Test, Command, Choose, ForRows, Abort, Block, Finish, Then}
+use Rattle.sv_app.specs.Tables.{Tables}
+use Rattle.sv_app.specs.Trees.{Test, Command, ForRows, Abort, Block, Finish, Then}
 use Rattle.sv_effect.specs.declared.outcomes.Outcome.{Outcome}
 use Rattle.sv_app.specs.Units.{unit_of}
 use Rattle.sv_effect.specs.declared.outcomes.Outcome.TheVariants as outcomes
 use Rattle.sv_effect.specs.Follows.{Follows}
 use Rattle.sv_effect.specs.Reads.{ReadValue}
-use Rattle.sv_effect.specs.Run.{Stand, Flow, Goes, Ends, then_do, turns, closed, left_loop, run_command, run_block, Setting, with_scope, with_row, begun, instance, if_present, row_turn, meeting, only, present_keys, on_keys}
+use Rattle.sv_effect.specs.Run.{Stand, Flow, Goes, then_do, turns, closed, left_loop, run_command, run_block, Setting, with_scope, with_row, begun, instance, if_present, row_turn, meeting, only, present_keys, on_keys}
 use Rattle.sv_effect.specs.RunValues.{Progress, Scope}
 use Rattle.sv_effect.proofs.FollowLaws as follow
 use Rattle.sv_interp.specs.declared.states.OwnRow.{OwnRow}
@@ -104,8 +104,10 @@ row_absent unit r table k body o n a b s p found f e z =
 pub row_gone : (unit r table : ℕ) (k : Key) (body : Stand → Flow) (o n : Option Tables) (a b : Option (List ReadValue)) (s : State) (p : Place) (found : Option OwnRow) (row : OwnRow)
     → Follows o n a b (λ t. get (over s.own.items t) p ≡ own_rows found) → p ≡ record { table = table; key = k } → found ≡ Some row → row.present ≡ false → Runs (row_turn unit r table body k) o n a b s None s
 row_gone unit r table k body o n a b s p found row f e z w =
-    record { ran = follow.so o n a b _ _ f (λ t h. ap (λ q. if_present q (λ row. instance unit (λ y. body (with_scope y (with_row r row.values y.scope)))) (stand t s)) (ap (get (over s.own.items t)) (sym e) ∙ h ∙ ap own_rows z)
-      ∙ ap (λ c. cond c (instance unit (λ y. body (with_scope y (with_row r row.values y.scope))) (stand t s)) (Goes (stand t s))) w) }
+    record {
+      ran = follow.so o n a b _ _ f (λ t h. ap (λ q. if_present q (λ row. instance unit (λ y. body (with_scope y (with_row r row.values y.scope)))) (stand t s)) (ap (get (over s.own.items t)) (sym e) ∙ h ∙ ap own_rows z)
+          ∙ ap (λ c. cond c (instance unit (λ y. body (with_scope y (with_row r row.values y.scope))) (stand t s)) (Goes (stand t s))) w);
+    }
 
 -- the turn of a present row
 pub row_runs : (unit r table : ℕ) (k : Key) (body : Stand → Flow) (o m n : Option Tables) (a b c : Option (List ReadValue)) (s x u : State) (end : Option Outcome) (s' : State) (own : List (Place × OwnRow)) (found : Option OwnRow) (row : OwnRow) (outer : Progress)
@@ -113,11 +115,13 @@ pub row_runs : (unit r table : ℕ) (k : Key) (body : Stand → Flow) (o m n : O
     → outer ≡ progress_of s.scope.progress → ((t : Tables) → stand t x ≡ begun unit (stand t s)) → ((t : Tables) → stand t u ≡ with_scope (stand t x) (with_row r row.values (stand t x).scope))
     → Runs (closing outer body) m n b c u end s' → Runs (row_turn unit r table body k) o n a c s end s'
 row_runs unit r table k body o m n a b c s x u end s' own found row outer f e z w out begins binds g =
-    record { ran = follow.next_to o m n a b c _ _ _ f g.ran (λ t h y. ap (λ q. if_present q (λ row. instance unit (λ y. body (with_scope y (with_row r row.values y.scope)))) (stand t s)) (ap (λ l. get (over l t) (record { table = table; key = k })) (sym e) ∙ h ∙ ap own_rows z)
-      ∙ ap (λ c. cond c (instance unit (λ y. body (with_scope y (with_row r row.values y.scope))) (stand t s)) (Goes (stand t s))) w
-      ∙ ap (λ q. then_do (body (with_scope q (with_row r row.values q.scope))) (λ z. Goes (closed (stand t s).scope.progress z))) (sym (begins t))
-      ∙ ap (λ q. then_do (body q) (λ z. Goes (closed (stand t s).scope.progress z))) (sym (binds t))
-      ∙ ap (λ q. then_do (body (stand t u)) (λ z. Goes (closed q z))) (sym out) ∙ y) }
+    record {
+      ran = follow.next_to o m n a b c _ _ _ f g.ran (λ t h y. ap (λ q. if_present q (λ row. instance unit (λ y. body (with_scope y (with_row r row.values y.scope)))) (stand t s)) (ap (λ l. get (over l t) (record { table = table; key = k })) (sym e) ∙ h ∙ ap own_rows z)
+          ∙ ap (λ c. cond c (instance unit (λ y. body (with_scope y (with_row r row.values y.scope))) (stand t s)) (Goes (stand t s))) w
+          ∙ ap (λ q. then_do (body (with_scope q (with_row r row.values q.scope))) (λ z. Goes (closed (stand t s).scope.progress z))) (sym (begins t))
+          ∙ ap (λ q. then_do (body q) (λ z. Goes (closed (stand t s).scope.progress z))) (sym (binds t))
+          ∙ ap (λ q. then_do (body (stand t u)) (λ z. Goes (closed q z))) (sym out) ∙ y);
+    }
 
 pub ruleset rows = (row_absent, row_gone, row_runs)
 
@@ -126,18 +130,22 @@ pub for_ends : (g : Setting) (r table : Ident) (test : Option Test) (body : Bloc
     → Follows o m a b (λ t. only (meeting r.num table.num test (over s.own.items t) (present_keys (over s.own.items t) table.num) scope) ≡ found) → scope ≡ scope_of s.scope → found ≡ None
     → Runs (run_command g (ForRows r table test body)) o m a b s (Some outcomes.Range) s
 for_ends g r table test body o m a b s scope found f e z =
-    record { ran = follow.so o m a b _ _ f (λ t h. ap (λ q. on_keys q (λ ks. then_do (turns ks (row_turn (unit_of g.loops r.num) r.num table.num (run_block g body)) (stand t s)) (left_loop body)))
-      (ap (λ q. only (meeting r.num table.num test (over s.own.items t) (present_keys (over s.own.items t) table.num) q)) (sym e) ∙ h ∙ z)) }
+    record {
+      ran = follow.so o m a b _ _ f (λ t h. ap (λ q. on_keys q (λ ks. then_do (turns ks (row_turn (unit_of g.loops r.num) r.num table.num (run_block g body)) (stand t s)) (left_loop body)))
+          (ap (λ q. only (meeting r.num table.num test (over s.own.items t) (present_keys (over s.own.items t) table.num) q)) (sym e) ∙ h ∙ z));
+    }
 
 pub for_runs : (g : Setting) (r table : Ident) (test : Option Test) (body : Block) (o m n : Option Tables) (a b c : Option (List ReadValue)) (s : State) (own : List (Place × OwnRow)) (scope : Scope) (found : Option (List Key)) (ks ls : List Key) (u : ℕ) (end : Option Outcome) (s' : State)
     → Follows o m a b (λ t. only (meeting r.num table.num test (over own t) (present_keys (over own t) table.num) scope) ≡ found) → own ≡ s.own.items → scope ≡ scope_of s.scope → found ≡ Some ks → ls ≡ ks
     → u ≡ unit_of g.loops r.num → Runs (looping ls (row_turn u r.num table.num (run_block g body)) body) m n b c s end s' → Runs (run_command g (ForRows r table test body)) o n a c s end s'
 for_runs g r table test body o m n a b c s own scope found ks ls u end s' f w e z i v l =
-    record { ran = follow.next_to o m n a b c _ _ _ f l.ran (λ t h y. ap (λ q. on_keys q (λ ks. then_do (turns ks (row_turn (unit_of g.loops r.num) r.num table.num (run_block g body)) (stand t s)) (left_loop body)))
-      (ap (λ l. only (meeting r.num table.num test (over l t) (present_keys (over l t) table.num) (scope_of s.scope))) (sym w)
-        ∙ ap (λ q. only (meeting r.num table.num test (over own t) (present_keys (over own t) table.num) q)) (sym e) ∙ h ∙ z)
-      ∙ ap (λ l. then_do (turns l (row_turn (unit_of g.loops r.num) r.num table.num (run_block g body)) (stand t s)) (left_loop body)) (sym i)
-      ∙ ap (λ w. then_do (turns ls (row_turn w r.num table.num (run_block g body)) (stand t s)) (left_loop body)) (sym v) ∙ y) }
+    record {
+      ran = follow.next_to o m n a b c _ _ _ f l.ran (λ t h y. ap (λ q. on_keys q (λ ks. then_do (turns ks (row_turn (unit_of g.loops r.num) r.num table.num (run_block g body)) (stand t s)) (left_loop body)))
+          (ap (λ l. only (meeting r.num table.num test (over l t) (present_keys (over l t) table.num) (scope_of s.scope))) (sym w)
+          ∙ ap (λ q. only (meeting r.num table.num test (over own t) (present_keys (over own t) table.num) q)) (sym e) ∙ h ∙ z)
+          ∙ ap (λ l. then_do (turns l (row_turn (unit_of g.loops r.num) r.num table.num (run_block g body)) (stand t s)) (left_loop body)) (sym i)
+          ∙ ap (λ w. then_do (turns ls (row_turn w r.num table.num (run_block g body)) (stand t s)) (left_loop body)) (sym v) ∙ y);
+    }
 
 pub ruleset fors = (for_ends, for_runs)
 
@@ -148,14 +156,18 @@ turns_start xs turn o n a b s same stands = record { ran = follow.quiet o n a b 
 pub turns_step : {A : Type 0} (xs : List A) (turn : A → Stand → Flow) (i : ℕ) (d v : A) (o m n : Option Tables) (a b c : Option (List ReadValue)) (s u w : State) (one : Option Outcome)
     → Reaches xs (drop i xs) turn o m a b s u → i < length xs → v ≡ get_or xs i d → Runs (turn v) m n b c u one w → one ≡ None → Reaches xs (drop (i + 1) xs) turn o n a c s w
 turns_step xs turn i d v o m n a b c s u w one g h k r z =
-    record { ran = follow.next_to o m n a b c _ _ _ g.ran r.ran (λ t x y. x ∙ at_drop_more (λ l. turns l turn (stand t u)) xs i d h
-      ∙ ap (λ q. then_do (turn q (stand t u)) (turns (drop (i + 1) xs) turn)) (sym k) ∙ ap (λ q. then_do q (turns (drop (i + 1) xs) turn)) (y ∙ ap (λ e. flow_of e (stand t w)) z)) }
+    record {
+      ran = follow.next_to o m n a b c _ _ _ g.ran r.ran (λ t x y. x ∙ at_drop_more (λ l. turns l turn (stand t u)) xs i d h
+          ∙ ap (λ q. then_do (turn q (stand t u)) (turns (drop (i + 1) xs) turn)) (sym k) ∙ ap (λ q. then_do q (turns (drop (i + 1) xs) turn)) (y ∙ ap (λ e. flow_of e (stand t w)) z));
+    }
 
 pub turns_stop : {A : Type 0} (xs : List A) (turn : A → Stand → Flow) (i : ℕ) (d v : A) (o m n : Option Tables) (a b c : Option (List ReadValue)) (s u w : State) (one : Option Outcome) (e : Outcome)
     → Reaches xs (drop i xs) turn o m a b s u → i < length xs → v ≡ get_or xs i d → Runs (turn v) m n b c u one w → one ≡ Some e → Runs (turns xs turn) o n a c s (Some e) w
 turns_stop xs turn i d v o m n a b c s u w one e g h k r z =
-    record { ran = follow.next_to o m n a b c _ _ _ g.ran r.ran (λ t x y. x ∙ at_drop_more (λ l. turns l turn (stand t u)) xs i d h
-      ∙ ap (λ q. then_do (turn q (stand t u)) (turns (drop (i + 1) xs) turn)) (sym k) ∙ ap (λ q. then_do q (turns (drop (i + 1) xs) turn)) (y ∙ ap (λ e. flow_of e (stand t w)) z)) }
+    record {
+      ran = follow.next_to o m n a b c _ _ _ g.ran r.ran (λ t x y. x ∙ at_drop_more (λ l. turns l turn (stand t u)) xs i d h
+          ∙ ap (λ q. then_do (turn q (stand t u)) (turns (drop (i + 1) xs) turn)) (sym k) ∙ ap (λ q. then_do q (turns (drop (i + 1) xs) turn)) (y ∙ ap (λ e. flow_of e (stand t w)) z));
+    }
 
 pub turns_done : {A : Type 0} (xs : List A) (turn : A → Stand → Flow) (i : ℕ) (o m : Option Tables) (a b : Option (List ReadValue)) (s u : State)
     → Reaches xs (drop i xs) turn o m a b s u → length xs ≤ i → Runs (turns xs turn) o m a b s None u

@@ -1,5 +1,5 @@
 -- How a whole run ends.
-use Rattle.std.proofs.Common.{◌≡◌, ℕ, List, Option, Some, None, refl, sym, ap, ◌∙◌}
+use Rattle.std.proofs.Common.{◌≡◌, ℕ, List, Option, Some, None, sym, ap, ◌∙◌}
 use Rattle.sv_app.specs.declared.requests.Arg.{Arg}
 use Rattle.sv_app.specs.Schema.{Declaration}
 use Rattle.sv_app.specs.Tables.{Tables}
@@ -8,8 +8,7 @@ use Rattle.sv_app.specs.Units.{loop_variables}
 use Rattle.sv_effect.specs.declared.outcomes.Outcome.{Outcome}
 use Rattle.sv_effect.specs.Follows.{Follows}
 use Rattle.sv_effect.specs.Reads.{ReadValue}
-use Rattle.sv_effect.specs.Run as run
-use Rattle.sv_effect.specs.Run.{Stand, Flow, Goes, Ends, run_block, started, result_of, run_body, RunResult}
+use Rattle.sv_effect.specs.Run.{Goes, Ends, run_block, started, result_of, run_body, RunResult}
 use Rattle.sv_effect.proofs.FollowLaws as follow
 use Rattle.sv_interp.specs.declared.states.State.{State}
 use Rattle.sv_interp.specs.Machine.{stand, flow_of, Runs}
@@ -20,7 +19,7 @@ made : (schema : List Declaration) (loops ls : List ℕ) (body : Block) (args : 
     → ((t : Tables) → result_of schema (flow_of end (stand t s')) ≡ ran) → Follows o n a b (λ t. run_body schema body args t ≡ ran)
 made schema loops ls body args o n a b s end s' ran e begins g h =
     follow.so o n a b _ _ g.ran (λ t x. ap (λ l. result_of schema (run_block (record { schema = schema; arguments = args; loops = l }) body (started args t))) (sym e)
-      ∙ ap (λ st. result_of schema (run_block (record { schema = schema; arguments = args; loops = ls }) body st)) (sym (begins t)) ∙ ap (result_of schema) x ∙ h t)
+    ∙ ap (λ st. result_of schema (run_block (record { schema = schema; arguments = args; loops = ls }) body st)) (sym (begins t)) ∙ ap (result_of schema) x ∙ h t)
 
 pub made_whole : (schema : List Declaration) (ls : List ℕ) (body : Block) (args : List Arg) (o n : Option Tables) (a b : Option (List ReadValue)) (s : State) (end : Option Outcome) (s' : State) (ran : RunResult)
     → ls ≡ loop_variables body → ((t : Tables) → stand t s ≡ started args t) → Runs (run_block (record { schema = schema; arguments = args; loops = ls }) body) o n a b s end s'

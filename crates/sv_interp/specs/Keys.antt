@@ -1,5 +1,6 @@
 -- The keys at which a test holds, from one to the next.
 use Rattle.std.specs.Prelude.{◌≡◌, ◌==◌, ℕ, Bool, true, false, List, [], ◌∷◌, ◌++◌, Option, Some, None, if◌then◌else◌}
+use Rattle.std.specs.Borrow.{Bor}
 use Rattle.std.specs.Ordering.{is_lt}
 use Rattle.std.specs.declared.cmp.Ordering.{Ordering}
 use Rattle.std.specs.declared.cmp.Ordering.TheVariants.{Less, Equal, Greater}
@@ -7,7 +8,7 @@ use Rattle.sv_value.specs.declared.values.Key.{Key}
 use Rattle.sv_value.specs.Orders.{key_cmp}
 use Rattle.sv_app.specs.declared.places.Place.{Place}
 use Rattle.sv_app.specs.Tables.{Tables}
-use Rattle.sv_effect.specs.Agrees.{is_after, is_present, IsNextKey}
+use Rattle.sv_effect.specs.Agrees.{is_after, is_present}
 use Rattle.sv_effect.specs.Follows.{Follows}
 use Rattle.sv_effect.specs.Reads.{ReadValue}
 use Rattle.sv_interp.specs.declared.states.OwnRow.{OwnRow}
@@ -49,3 +50,8 @@ without_key j (x ∷ xs) = without_by (key_cmp j x) x xs (without_key j xs)
 -- the keys of present rows of a table, after a row was written
 abbrev pub laid : Place × OwnRow → ℕ → List Key → List Key
 laid e table ks = if table == e.0.table then (if e.1.present then with_key e.0.key ks else without_key e.0.key ks) else ks
+
+-- a list of keys by the first and the others
+abbrev pub SplitsKeys : List Key → Option (Bor Key × Bor (List Key)) → Type 0
+SplitsKeys ks None = ks ≡ []
+SplitsKeys ks (Some p) = ks ≡ p.0.now ∷ p.1.now

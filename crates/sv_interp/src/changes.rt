@@ -126,7 +126,15 @@ pub fn insert_row(
         return Ok(Some(Outcome::Exists));
     }
     let kept = kept_values(alloc, table, place, row)?;
-    let Some(writes) = inserts(alloc, table, vals, kept.items(), 0, &table.columns, &mut state.scope)?
+    let Some(writes) = inserts(
+        alloc,
+        table,
+        vals,
+        kept.items(),
+        0,
+        &table.columns,
+        &mut state.scope,
+    )?
     else {
         return Ok(Some(Outcome::Range));
     };

@@ -302,5 +302,7 @@ pub fn zeros(alloc: Global, table: &Table, key: &Key) -> Result<List<Got>, NoMem
 pub fn put_key(keys: &mut List<Key>, key: &Key) -> Result<(), NoMemory>
     ensures { OnOk result (keys.new ≡ keys.old ++ key.now ∷ []) }
 {
-    keys.push(*key)
+    let first: Val = key.first;
+    let second: Option<Val> = key.second;
+    keys.push(Key { first, second })
 }

@@ -1,21 +1,125 @@
 ghost use Rattle.std.specs.Prelude.{◌≡◌, IfOk, Err, false, List as Items};
+ghost use Rattle.std.specs.FinMap.{get};
 ghost use Rattle.std.specs.Option.{option_map};
 ghost use Rattle.sv_app.specs.Schema.{Declaration};
 ghost use Rattle.sv_app.specs.Trees.{test_of};
 ghost use Rattle.sv_effect.specs.declared.reads.Ask.{Ask as AskValue};
 ghost use Rattle.sv_effect.specs.declared.reads.Halt.TheVariants as halt;
 ghost use Rattle.sv_effect.specs.Follows.{Follows};
-ghost use Rattle.sv_effect.specs.Run.{meeting, only, present_keys};
-ghost use Rattle.sv_interp.specs.Machine.{over, scope_of};
+ghost use Rattle.sv_effect.specs.Run.{with_row, values_at, kept_if, meeting_test, meeting, only, present_keys};
+ghost use Rattle.sv_effect.specs.RunValues.{truth_of};
+ghost use Rattle.sv_interp.specs.Keys.{SplitsKeys};
+ghost use Rattle.sv_interp.specs.Machine.{over, own_rows, scope_of, evaluated};
 
+use crate::looks::look;
+use crate::overlays::{kept_if, lay_all};
 use crate::scopes::Scope;
+use crate::slots::put_row;
 use crate::states::OwnRow;
+use crate::values::truth;
+use crate::walks::walk;
 use std::alloc::Global;
-use sv_app::{Cond, Place};
+use sv_app::{Cond, Got, Place};
 use sv_effect::{Halt, Rows};
 use sv_value::{Key, List};
 
+/// The keys of the present rows of a table, in order.
+#[tactic(auto, using(crate::proofs::MeetLaws::presence))]
+fn present<R: Rows>(
+    alloc: Global,
+    own: &[(Place, OwnRow)],
+    table: u16,
+    rows: &mut R,
+) -> Result<List<Key>, Halt>
+    ensures followed { IfOk result (λ keys. Follows (R.tables rows.old) (R.tables rows.new) (R.noted rows.old) (R.noted rows.new) (λ t. keys ≡ present_keys (over own.now t) table)) }
+    ensures same_app { (schema : Items Declaration) → R.is_of rows.old schema → R.is_of rows.new schema }
+    ensures same_tables { R.tables rows.new ≡ R.tables rows.old }
+    ensures same_knows { R.knows rows.new ≡ R.knows rows.old }
+    ensures missing { (a : AskValue) → result ≡ Err (halt.Missing a) → R.knows rows.old a ≡ false }
+{
+    let mut keys = List::new(alloc);
+    walk(&mut keys, rows, table, None)?;
+    let left = lay_all(alloc, own, table, keys)?;
+    Ok(left)
+}
+
+fn values_of(alloc: Global, found: Option<OwnRow>) -> List<Got>
+    ensures { result ≡ values_at (own_rows found) }
+{
+    match found {
+        Some(row) => row.values,
+        None => List::new(alloc),
+    }
+}
+
+/// Whether the row at a place meets the condition.
+#[tactic(auto, using(crate::proofs::MeetLaws::row_meets))]
+fn meets<R: Rows>(
+    alloc: Global,
+    own: &[(Place, OwnRow)],
+    row: u16,
+    place: &Place,
+    test: &Cond,
+    scope: &mut Scope,
+    rows: &mut R,
+) -> Result<Option<bool>, Halt>
+    ensures followed { IfOk result (λ holds. Follows (R.tables rows.old) (R.tables rows.new) (R.noted rows.old) (R.noted rows.new)
+        (λ t. truth_of (test_of test.now) (with_row row (values_at (get (over own.now t) place.now)) (scope_of scope.old)) ≡ evaluated holds scope.new)) }
+    ensures same_app { (schema : Items Declaration) → R.is_of rows.old schema → R.is_of rows.new schema }
+    ensures same_tables { R.tables rows.new ≡ R.tables rows.old }
+    ensures same_knows { R.knows rows.new ≡ R.knows rows.old }
+    ensures missing { (a : AskValue) → result ≡ Err (halt.Missing a) → R.knows rows.old a ≡ false }
+{
+    let found = look(alloc, own, rows, place)?;
+    let values = values_of(alloc, found);
+    put_row(alloc, &mut scope.rows, row, values)?;
+    let holds = truth(test, scope)?;
+    Ok(holds)
+}
+
+fn split(keys: &[Key]) -> Option<(&Key, &[Key])>
+    ensures { SplitsKeys keys.now result }
+{
+    keys.split_first()
+}
+
+/// Those of the keys whose rows meet the condition.
+#[tactic(auto, using(crate::proofs::MeetLaws::rows_meet))]
+fn meet<R: Rows>(
+    alloc: Global,
+    own: &[(Place, OwnRow)],
+    row: u16,
+    table: u16,
+    test: &Cond,
+    keys: &[Key],
+    scope: &mut Scope,
+    rows: &mut R,
+) -> Result<Option<List<Key>>, Halt>
+    ensures followed { IfOk result (λ met. Follows (R.tables rows.old) (R.tables rows.new) (R.noted rows.old) (R.noted rows.new)
+        (λ t. meeting_test row table (test_of test.now) (over own.now t) keys.now (scope_of scope.old) ≡ evaluated met scope.new)) }
+    ensures same_app { (schema : Items Declaration) → R.is_of rows.old schema → R.is_of rows.new schema }
+    ensures same_tables { R.tables rows.new ≡ R.tables rows.old }
+    ensures same_knows { R.knows rows.new ≡ R.knows rows.old }
+    ensures missing { (a : AskValue) → result ≡ Err (halt.Missing a) → R.knows rows.old a ≡ false }
+{
+    match split(keys) {
+        None => Ok(Some(List::new(alloc))),
+        Some((first, rest)) => {
+            let place = Place { table, key: *first };
+            let Some(holds) = meets(alloc, own, row, &place, test, scope, rows)? else {
+                return Ok(None);
+            };
+            let Some(met) = meet(alloc, own, row, table, test, rest, scope, rows)? else {
+                return Ok(None);
+            };
+            let left = kept_if(holds, first, met)?;
+            Ok(Some(left))
+        }
+    }
+}
+
 /// The keys of the present rows that meet the condition, in order; none where a number leaves 64 bits.
+#[tactic(auto, using(crate::proofs::MeetLaws::all_meet))]
 pub fn met_keys<R: Rows>(
     alloc: Global,
     row: u16,
@@ -32,5 +136,22 @@ pub fn met_keys<R: Rows>(
     ensures same_knows { R.knows rows.new ≡ R.knows rows.old }
     ensures missing { (a : AskValue) → result ≡ Err (halt.Missing a) → R.knows rows.old a ≡ false }
 {
-    Err(Halt::NoMemory)
+    let keys = present(alloc, own, table, rows)?;
+    match cond {
+        None => Ok(Some(keys)),
+        Some(test) => {
+            let mut scratch = scope;
+            let met = meet(
+                alloc,
+                own,
+                row,
+                table,
+                test,
+                keys.items(),
+                &mut scratch,
+                rows,
+            )?;
+            Ok(met)
+        }
+    }
 }

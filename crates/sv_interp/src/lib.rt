@@ -10,9 +10,11 @@ mod needs;
 mod overlays;
 mod runs;
 mod scopes;
+mod slots;
 mod statements;
 mod states;
-mod slots;
+#[cfg(test)]
+mod tests;
 mod txns;
 mod values;
 mod walks;

@@ -46,11 +46,7 @@ fn is_one_of(vars: &[u16], source: &Source) -> bool
 }
 
 /// The sources that are still known after a loop that assigns these variables.
-pub fn known_after(
-    alloc: Global,
-    vars: &[u16],
-    known: &[Source],
-) -> Result<List<Source>, NoMemory>
+pub fn known_after(alloc: Global, vars: &[u16], known: &[Source]) -> Result<List<Source>, NoMemory>
     ensures { IfOk result (λ left. left ≡ known_after vars.now known.now) }
 {
     match known.split_first() {

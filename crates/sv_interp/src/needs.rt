@@ -304,16 +304,19 @@ fn add_needs(
 
 /// The rows that the changes of a run need, each once.
 #[tactic(auto, using(crate::proofs::NeedLaws::walking))]
-pub fn needs(
-    alloc: Global,
-    tables: &[Table],
-    effects: &[RowEffect],
-) -> Result<List<Need>, NoMemory>
+pub fn needs(alloc: Global, tables: &[Table], effects: &[RowEffect]) -> Result<List<Need>, NoMemory>
     ensures { IfOk result (λ needs. needs ≡ needs_of (schema_of tables.now) (map effect_of effects.now)) }
 {
     let mut held = List::new(alloc);
     for at in 0..effects.len() {
-        add_needs(alloc, &mut held, tables, effects, &effects[..at], &effects[at])?;
+        add_needs(
+            alloc,
+            &mut held,
+            tables,
+            effects,
+            &effects[..at],
+            &effects[at],
+        )?;
     }
     Ok(held)
 }

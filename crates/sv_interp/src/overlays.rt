@@ -1,6 +1,6 @@
 ghost use Rattle.std.specs.Prelude.{◌≡◌, IfOk};
 ghost use Rattle.sv_app.specs.Tables.{Tables};
-ghost use Rattle.sv_effect.specs.Run.{present_keys};
+ghost use Rattle.sv_effect.specs.Run.{kept_if, present_keys};
 ghost use Rattle.sv_interp.specs.Keys.{with_key, without_key, laid};
 ghost use Rattle.sv_interp.specs.Machine.{over};
 
@@ -80,5 +80,18 @@ pub fn lay_all(
             let under = lay_all(alloc, rest, table, keys)?;
             lay(alloc, first, table, under)
         }
+    }
+}
+
+/// The keys, with one before them if it is kept.
+pub fn kept_if(holds: bool, key: &Key, keys: List<Key>) -> Result<List<Key>, NoMemory>
+    ensures { IfOk result (λ left. left ≡ kept_if holds key.now keys) }
+{
+    if holds {
+        let first: Val = key.first;
+        let second: Option<Val> = key.second;
+        prepend(Key { first, second }, keys)
+    } else {
+        Ok(keys)
     }
 }

@@ -14,7 +14,9 @@ use crate::looks::look;
 use crate::loops::split;
 use crate::scopes::Progress;
 use crate::slots::put_value;
-use crate::statements::{items_of, loop_unit, run_get, run_insert, run_let, run_remove, run_reply, run_update};
+use crate::statements::{
+    items_of, loop_unit, run_get, run_insert, run_let, run_remove, run_reply, run_update,
+};
 use crate::states::{Setting, State};
 use crate::values::truth;
 use std::alloc::Global;
@@ -216,10 +218,7 @@ fn run_row<R: Rows>(
     ensures same_knows { R.knows rows.new ≡ R.knows rows.old }
     ensures missing { (a : AskValue) → result ≡ Err (halt.Missing a) → R.knows rows.old a ≡ false }
 {
-    let place = Place {
-        table,
-        key: *key,
-    };
+    let place = Place { table, key: *key };
     match look(alloc, &state.own, rows, &place)? {
         None => Ok(None),
         Some(found) => {
@@ -364,7 +363,16 @@ fn run_each<R: Rows>(
     let vals = items_of(alloc, setting, list.num)?;
     let number = var.num;
     let unit = loop_unit(setting, number)?;
-    let end = loop_items(alloc, setting, unit, number, vals.items(), body, state, rows)?;
+    let end = loop_items(
+        alloc,
+        setting,
+        unit,
+        number,
+        vals.items(),
+        body,
+        state,
+        rows,
+    )?;
     Ok(end)
 }
 
@@ -393,6 +401,16 @@ fn run_for<R: Rows>(
         return Ok(Some(Outcome::Range));
     };
     let unit = loop_unit(setting, bound)?;
-    let end = loop_rows(alloc, setting, unit, bound, number, keys.items(), body, state, rows)?;
+    let end = loop_rows(
+        alloc,
+        setting,
+        unit,
+        bound,
+        number,
+        keys.items(),
+        body,
+        state,
+        rows,
+    )?;
     Ok(end)
 }

@@ -229,11 +229,7 @@ pub fn run_remove<R: Rows>(
 }
 
 /// The elements of a list parameter.
-pub fn items_of(
-    alloc: Global,
-    setting: &Setting<'_>,
-    number: u16,
-) -> Result<List<Val>, NoMemory>
+pub fn items_of(alloc: Global, setting: &Setting<'_>, number: u16) -> Result<List<Val>, NoMemory>
     ensures { IfOk result (λ items. items ≡ items_of (slice_get (setting_of setting.now).arguments number)) }
 {
     match setting.args.get(number as usize) {

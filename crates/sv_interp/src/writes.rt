@@ -32,7 +32,9 @@ fn written(write: &Write, old: &Got) -> Option<Got>
 {
     match (write, old) {
         (Write::Set(val), _) => Some(got_of(val)),
-        (Write::Delta(delta), Got::Num(number)) => Some(Got::Num(number.checked_add(*delta as i128)?)),
+        (Write::Delta(delta), Got::Num(number)) => Some(Got::Num(number.checked_add(
+            *delta as i128,
+        )?)),
         (Write::Delta(_), Got::Text(text)) => Some(Got::Text(*text)),
     }
 }
@@ -65,12 +67,7 @@ pub fn delta_to(new: &Val, old: &Val) -> Option<Write>
 }
 
 /// How a column is set: a counter by what is added to its value now.
-fn set_of(
-    merge: Merge,
-    col: u16,
-    val: &Val,
-    scope: &mut Scope,
-) -> Result<Option<Write>, NoMemory>
+fn set_of(merge: Merge, col: u16, val: &Val, scope: &mut Scope) -> Result<Option<Write>, NoMemory>
     ensures { IfOk result (λ w. set_of merge col val.now (scope_of scope.old) ≡ evaluated w scope.new) }
 {
     match merge {

@@ -1,4 +1,4 @@
-use Rattle.std.proofs.Common.{◌≡◌, [], map}
+use Rattle.std.proofs.Common.{◌≡◌, map}
 use Rattle.sv_app.specs.Schema.{schema_of}
 use Rattle.sv_effect.specs.Needs.{once, needs_of}
 use Rattle.sv_effect.specs.RunChanges.{effect_of}

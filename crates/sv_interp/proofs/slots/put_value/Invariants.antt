@@ -1,4 +1,4 @@
-use Rattle.std.proofs.Common.{◌≡◌, ◌≤◌, ◌-◌, length}
+use Rattle.std.proofs.Common.{◌≡◌, ◌-◌, length}
 use Rattle.sv_app.specs.Slots.{with_item}
 use Rattle.sv_effect.specs.RunValues.{nothing}
 use Rattle.sv_interp.proofs.slots.put_value.Given as goal

@@ -10,10 +10,10 @@ pub returns-in-Some-clause-followed : goal.returns-in-Some-clause-followed
 returns-in-Some-clause-followed g c =
     let loops : c.as_slice.result.now ≡ loop_variables (block_of c.args.body.now) = search rules in
     made_ended (schema_of c.args.tables.now) c.as_slice.result.now (block_of c.args.body.now) c.args.args.now _ _ _ _ c.in_ok-state.state c.in_ok-outcome.field-0 c.run_all.new.state c.in-Some.outcome (ran_of c.ended-ran.result)
-      loops c.in_ok-state.ensures c.in_ok-outcome.ensures.ran c.in-Some.is c.ended-ran.ensures.result
+    loops c.in_ok-state.ensures c.in_ok-outcome.ensures.ran c.in-Some.is c.ended-ran.ensures.result
 
 pub returns-clause-followed : goal.returns-clause-followed
 returns-clause-followed g c =
     let loops : c.as_slice.result.now ≡ loop_variables (block_of c.args.body.now) = search rules in
     made_whole (schema_of c.args.tables.now) c.as_slice.result.now (block_of c.args.body.now) c.args.args.now _ _ _ _ c.in_ok-state.state c.in_ok-outcome.field-0 c.run_all.new.state (ran_of c.in_ok-ran-in-None.ran)
-      loops c.in_ok-state.ensures c.in_ok-outcome.ensures.ran c.in-None.is c.in_ok-ran-in-None.ensures.result
+    loops c.in_ok-state.ensures c.in_ok-outcome.ensures.ran c.in-None.is c.in_ok-ran-in-None.ensures.result

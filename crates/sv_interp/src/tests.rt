@@ -1,0 +1,222 @@
+//! Runs on tables without rows: how they end, and what a run reads of its own changes.
+use crate::{Outcome, Ran, run_txn};
+use std::alloc::Global;
+use std::test::Fail;
+use sv_app::{App, Column, Cond, Expr, Ident, Kind, Merge, Rel, Request, Stmt, Table, Txn, Ty};
+use sv_effect::{Halt, Rows, Seen};
+use sv_value::{Key, List, Name, Spot, Val};
+
+const HERE: Spot = Spot { line: 1, col: 1 };
+
+/// Tables without rows.
+#[derive(Drop)]
+struct Nothing;
+
+impl Rows for Nothing {
+    ghost use Rattle.std.specs.Prelude.{None, true, false};
+
+    ghost is_of = { λ _ schema. Unit {0} };
+
+    ghost tables = { λ _. None };
+
+    ghost knows = { λ _ ask. true };
+
+    ghost rest = { λ _ table after. 0 };
+
+    ghost noted = { λ _. None };
+
+    ghost takes_memory = { λ _. false };
+
+    fn row(&mut self, _table: u16, _key: &Key) -> Result<Seen, Halt> {
+        Ok(Seen::unkept())
+    }
+
+    fn next(&mut self, _table: u16, _after: Option<&Key>) -> Result<Option<Key>, Halt> {
+        Ok(None)
+    }
+}
+
+fn ident(num: u16) -> Result<Ident, Fail> {
+    Ok(Ident {
+        name: Name::new(b"x").ok_or("no name")?,
+        spot: HERE,
+        num,
+    })
+}
+
+fn column(num: u16, merge: Merge) -> Result<Column, Fail> {
+    Ok(Column {
+        name: ident(num)?,
+        ty: Ty::Int,
+        merge,
+    })
+}
+
+/// A table of an integer key, a counter, and an integer of which the last writer wins.
+fn table(alloc: Global) -> Result<Table, Fail> {
+    let mut columns = Vec::new(alloc);
+    columns.push(column(0, Merge::Plain)?)?;
+    columns.push(column(1, Merge::NumDelta)?)?;
+    columns.push(column(2, Merge::Lww)?)?;
+    let mut key = Vec::new(alloc);
+    key.push(ident(0)?)?;
+    Ok(Table {
+        name: ident(0)?,
+        kind: Kind::Plain,
+        columns,
+        key,
+        second_key: None,
+        invs: Vec::new(alloc),
+    })
+}
+
+fn run(alloc: Global, body: Vec<Stmt>) -> Result<Ran, Fail> {
+    let mut tables = Vec::new(alloc);
+    tables.push(table(alloc)?)?;
+    let mut txns = Vec::new(alloc);
+    txns.push(Txn {
+        name: ident(0)?,
+        params: Vec::new(alloc),
+        body,
+    })?;
+    let app = App { tables, txns };
+    let request = Request {
+        txn: 0,
+        args: List::new(alloc),
+    };
+    match run_txn(alloc, &app, &request, &mut Nothing) {
+        Ok(ran) => Ok(ran),
+        Err(_) => Err(Fail::from("no memory")),
+    }
+}
+
+fn int(number: i64) -> Expr {
+    Expr::Int(number, HERE)
+}
+
+fn field(row: u16, col: u16) -> Result<Expr, Fail> {
+    Ok(Expr::Field {
+        row: ident(row)?,
+        col: ident(col)?,
+        spot: HERE,
+    })
+}
+
+fn sum(alloc: Global, left: Expr, right: Expr) -> Result<Expr, Fail> {
+    let left = Box::new(alloc, left)?;
+    let right = Box::new(alloc, right)?;
+    Ok(Expr::Add(left, right, HERE))
+}
+
+fn one(alloc: Global, expr: Expr) -> Result<Vec<Expr>, Fail> {
+    let mut exprs = Vec::new(alloc);
+    exprs.push(expr)?;
+    Ok(exprs)
+}
+
+fn insert(alloc: Global, key: i64, count: i64, last: i64) -> Result<Stmt, Fail> {
+    let mut values = one(alloc, int(key))?;
+    values.push(int(count))?;
+    values.push(int(last))?;
+    Ok(Stmt::Insert {
+        table: ident(0)?,
+        values,
+    })
+}
+
+/// `update t[r.k] set n = old.n + 10, v = old.n;`
+fn update(alloc: Global) -> Result<Stmt, Fail> {
+    let mut sets = Vec::new(alloc);
+    let more = sum(alloc, Expr::Old(ident(1)?, HERE), int(10))?;
+    sets.push((ident(1)?, more))?;
+    sets.push((ident(2)?, Expr::Old(ident(1)?, HERE)))?;
+    Ok(Stmt::Update {
+        table: ident(0)?,
+        key: one(alloc, field(0, 0)?)?,
+        sets,
+    })
+}
+
+/// `for r in t where r.n < 6 { .. }` around that update.
+fn loop_of(alloc: Global) -> Result<Stmt, Fail> {
+    let mut body = Vec::new(alloc);
+    body.push(update(alloc)?)?;
+    Ok(Stmt::Rows {
+        row: ident(0)?,
+        table: ident(0)?,
+        cond: Some(Cond::Cmp {
+            left: field(0, 1)?,
+            rel: Rel::Lt,
+            right: int(6),
+        }),
+        body,
+    })
+}
+
+fn reply_at(ran: &Ran, at: usize) -> Option<Val> {
+    match &ran.outcome {
+        Outcome::Done(replies) => replies.items().get(at).copied(),
+        _ => None,
+    }
+}
+
+#[test]
+fn a_loop_over_rows_of_its_own(rt: HostRuntime) -> Result<(), Fail> {
+    let alloc = rt.alloc();
+    let mut body = Vec::new(alloc);
+    body.push(insert(alloc, 2, 6, 8)?)?;
+    body.push(insert(alloc, 1, 5, 7)?)?;
+    body.push(loop_of(alloc)?)?;
+    body.push(Stmt::Get {
+        row: ident(1)?,
+        table: ident(0)?,
+        key: one(alloc, int(1))?,
+    })?;
+    body.push(Stmt::Reply(field(1, 1)?))?;
+    body.push(Stmt::Reply(field(1, 2)?))?;
+    let ran = run(alloc, body)?;
+    assert_eq!(rt; reply_at(&ran, 0), Some(Val::Int(15)));
+    assert_eq!(rt; reply_at(&ran, 1), Some(Val::Int(5)));
+    assert_eq!(rt; ran.effects.len(), 3);
+    assert_eq!(rt; ran.needs.len(), 0);
+    assert_eq!(rt; ran.trace.len(), 2);
+    Ok(())
+}
+
+fn outcome_number(ran: &Ran) -> u16 {
+    match &ran.outcome {
+        Outcome::Done(_) => 0,
+        Outcome::Abort(code) => *code,
+        Outcome::NoRow => 1001,
+        Outcome::Exists => 1002,
+        Outcome::Range => 1003,
+        Outcome::TooLarge => 1004,
+    }
+}
+
+#[test]
+fn runs_end_as_they_are_meant_to(rt: HostRuntime) -> Result<(), Fail> {
+    let alloc = rt.alloc();
+    let mut aborts = Vec::new(alloc);
+    aborts.push(Stmt::Abort { code: 3 })?;
+    assert_eq!(rt; outcome_number(&run(alloc, aborts)?), 3);
+    let mut misses = Vec::new(alloc);
+    misses.push(Stmt::Remove {
+        table: ident(0)?,
+        key: one(alloc, int(1))?,
+    })?;
+    assert_eq!(rt; outcome_number(&run(alloc, misses)?), 1001);
+    let mut twice = Vec::new(alloc);
+    twice.push(insert(alloc, 1, 1, 1)?)?;
+    twice.push(insert(alloc, 1, 2, 2)?)?;
+    assert_eq!(rt; outcome_number(&run(alloc, twice)?), 1002);
+    let mut wide = Vec::new(alloc);
+    wide.push(Stmt::Reply(sum(alloc, int(9223372036854775807), int(1))?))?;
+    assert_eq!(rt; outcome_number(&run(alloc, wide)?), 1003);
+    let mut large = Vec::new(alloc);
+    for number in 0..17i64 {
+        large.push(Stmt::Reply(int(number)))?;
+    }
+    assert_eq!(rt; outcome_number(&run(alloc, large)?), 1004);
+    Ok(())
+}
