@@ -106,3 +106,41 @@ map_some f (Some x) y e = record { x = x; is = refl; gives = cc }
 
 pub same_some : {A : Type 0} (o : Option A) (x y : A) → o ≡ Some x → o ≡ Some y → x ≡ y
 same_some o x y e f = cc
+
+pub front_at : {A : Type 0} (xs ys : List A) (k : ℕ) (x : A) → slice_get xs k ≡ Some x → slice_get (xs ++ ys) k ≡ Some x
+front_at [] ys k x at = absurd cc
+front_at (y ∷ xs) ys zero x at = at
+front_at (y ∷ xs) ys (suc k) x at = front_at xs ys k x at
+
+pub back_stands : {A : Type 0} (xs ys : List A) (x : A) → Stands ys x → Stands (xs ++ ys) x
+back_stands [] ys x h = h
+back_stands (y ∷ xs) ys x h = let later : Stands (xs ++ ys) x = back_stands xs ys x h in record { number = suc later.number; at = later.at }
+
+pub in_either : {A : Type 0} (xs ys : List A) (k : ℕ) (x : A) → slice_get (xs ++ ys) k ≡ Some x → Stands xs x ⊎ Stands ys x
+in_either [] ys k x at = inr (record { number = k; at = at })
+in_either (y ∷ xs) ys zero x at = inl (record { number = 0; at = at })
+in_either (y ∷ xs) ys (suc k) x at = by (in_either xs ys k x at)
+  where
+    by : Stands xs x ⊎ Stands ys x → Stands (y ∷ xs) x ⊎ Stands ys x
+    by (inl h) = inl (record { number = suc h.number; at = h.at })
+    by (inr h) = inr h
+
+-- an element of one of the lists is one of all of them
+pub flat_stands : {A B : Type 0} (f : A → List B) (xs : List A) (k : ℕ) (x : A) (y : B) → slice_get xs k ≡ Some x → Stands (f x) y → Stands (flat_map f xs) y
+flat_stands f [] k x y at h = absurd cc
+flat_stands f (z ∷ xs) zero x y at h = let same : z ≡ x = cc in record { number = h.number; at = front_at (f z) (flat_map f xs) h.number y (ap (λ w. slice_get (f w) h.number) same ∙ h.at) }
+flat_stands f (z ∷ xs) (suc k) x y at h = back_stands (f z) (flat_map f xs) y (flat_stands f xs k x y at h)
+
+pub record StandsIn {A B : Type 0} (f : A → List B) (xs : List A) (y : B) : Type 0 where
+  pub number : ℕ
+  pub x : A
+  pub at : slice_get xs number ≡ Some x
+  pub here : Stands (f x) y
+
+pub stands_in : {A B : Type 0} (f : A → List B) (xs : List A) (k : ℕ) (y : B) → slice_get (flat_map f xs) k ≡ Some y → StandsIn f xs y
+stands_in f [] k y at = absurd cc
+stands_in f (x ∷ xs) k y at = by (in_either (f x) (flat_map f xs) k y at) (λ j at_j. stands_in f xs j y at_j)
+  where
+    by : Stands (f x) y ⊎ Stands (flat_map f xs) y → ((j : ℕ) → slice_get (flat_map f xs) j ≡ Some y → StandsIn f xs y) → StandsIn f (x ∷ xs) y
+    by (inl h) ih = record { number = 0; x = x; at = refl; here = h }
+    by (inr h) ih = let later : StandsIn f xs y = ih h.number h.at in record { number = suc later.number; x = later.x; at = later.at; here = later.here }

@@ -88,11 +88,14 @@ pub fn least_broken<R: Rows>(
     ensures missing { (a : AskValue) → result ≡ Err (halt.Missing a) → R.knows rows.old a ≡ false }
 {
     let keys = candidates(alloc, left, table, walks(inv, left), rows)?;
-    if let InvBody::Unique { col } = &inv.body {
-        let pairs = present_values(alloc, left, table, col, &keys, rows)?;
-        Ok(least_clash(&pairs))
-    } else {
-        let found = least_among(alloc, app, table, inv, &keys, left, rows)?;
-        Ok(found)
+    match &inv.body {
+        InvBody::Unique { col } => {
+            let pairs = present_values(alloc, left, table, col, &keys, rows)?;
+            Ok(least_clash(&pairs))
+        }
+        InvBody::Check(_) | InvBody::List { .. } | InvBody::Refers { .. } => {
+            let found = least_among(alloc, app, table, inv, &keys, left, rows)?;
+            Ok(found)
+        }
     }
 }
