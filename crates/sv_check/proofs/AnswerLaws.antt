@@ -59,7 +59,7 @@ test_false schema init i row inv none_found is =
     find_none (λ inv. fails schema (λ p. is_there p init) (held_before schema init i) row inv.rule) (rules_of (slice_get schema row.table)) among.number inv
     (map_none (λ inv. inv.number) (find (λ inv. fails schema (λ p. is_there p init) (held_before schema init i) row inv.rule) (rules_of (slice_get schema row.table))) none_found) among.at
 
-cases_below : (j k : ℕ) → (j < k) ⊎ ((j ≡ k) ⊎ (k < j))
+pub cases_below : (j k : ℕ) → (j < k) ⊎ ((j ≡ k) ⊎ (k < j))
 cases_below j k = split (cases_eq j k) (cases_lt k j)
   where
     split : (j ≡ k) ⊎ (j ≡ k → ⊥) → (k < j) ⊎ (j ≤ k) → (j < k) ⊎ ((j ≡ k) ⊎ (k < j))
@@ -119,7 +119,7 @@ all_valid schema init passed = record {
   grown = λ table declaration key row declared grows kept. ap (λ r. r.present) (kept_from init (place_at table key) row kept).is;
 }
 
-numbers_from : (first : ℕ) (invs : List Invariant) (k : ℕ) (inv : Invariant) → AreNumberedFrom first invs → slice_get invs k ≡ Some inv → inv.number ≡ first + k
+pub numbers_from : (first : ℕ) (invs : List Invariant) (k : ℕ) (inv : Invariant) → AreNumberedFrom first invs → slice_get invs k ≡ Some inv → inv.number ≡ first + k
 numbers_from first [] k inv numbered at = absurd cc
 numbers_from first (x ∷ invs) zero inv numbered at = let same : x ≡ inv = cc in ap (λ z. z.number) (sym same) ∙ numbered.0 ∙ more first
   where
@@ -130,11 +130,11 @@ numbers_from first (x ∷ invs) (suc k) inv numbered at = numbers_from (suc firs
     more : (n m : ℕ) → suc n + m ≡ n + suc m
     more n m = omega arith
 
-numbered_front : (first : ℕ) (xs ys : List Invariant) → AreNumberedFrom first (xs ++ ys) → AreNumberedFrom first xs
+pub numbered_front : (first : ℕ) (xs ys : List Invariant) → AreNumberedFrom first (xs ++ ys) → AreNumberedFrom first xs
 numbered_front first [] ys numbered = tt
 numbered_front first (x ∷ xs) ys numbered = (numbered.0, numbered_front (suc first) xs ys numbered.1)
 
-numbered_back : (first : ℕ) (xs ys : List Invariant) → AreNumberedFrom first (xs ++ ys) → AreNumberedFrom (first + length xs) ys
+pub numbered_back : (first : ℕ) (xs ys : List Invariant) → AreNumberedFrom first (xs ++ ys) → AreNumberedFrom (first + length xs) ys
 numbered_back first [] ys numbered = subst (λ n. AreNumberedFrom n ys) (omega arith) numbered
 numbered_back first (x ∷ xs) ys numbered = subst (λ n. AreNumberedFrom n ys) (omega arith) (numbered_back (suc first) xs ys numbered.1)
 

@@ -72,7 +72,7 @@ second_of : (a b : Bool) → b ≡ true → (a || b) ≡ true
 second_of true b e = refl
 second_of false b e = e
 
-key_itself : (k : Key) → eq_by_cmp key_cmp k k ≡ true
+pub key_itself : (k : Key) → eq_by_cmp key_cmp k k ≡ true
 key_itself k = (eq_by_cmp_equiv key_total).refl k
 
 pub none_looked : (o n : Option Tables) (a b : Option (List ReadValue)) (schema : List Declaration) (left : List (Place × LeftRow)) (table : ℕ) (rule : Rule) (keys : List Key) → n ≡ o → b ≡ a

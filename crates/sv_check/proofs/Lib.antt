@@ -14,5 +14,6 @@ pub mod SetLaws
 pub mod SlotLaws
 pub mod TableLaws
 pub mod ValueLaws
+pub mod VerdictLaws
 pub mod WalkLaws
 pub mod WriteLaws

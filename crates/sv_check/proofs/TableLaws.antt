@@ -18,6 +18,10 @@ undeclared [] n le = refl
 undeclared (t ∷ tables) zero le = absurd (omega (arith, le))
 undeclared (t ∷ tables) (suc n) le = undeclared tables n (omega (arith, le))
 
+pub schema_long : (tables : List Table) → length (schema_of tables) ≡ length tables
+schema_long [] = refl
+schema_long (t ∷ tables) = let ih : length (schema_of tables) ≡ length tables = schema_long tables in omega (arith, ih)
+
 pub rules_at : (tables : List Table) (n : ℕ) (d : Table) → n < length tables → map invariant_of (get_or tables n d).invs.items ≡ rules_of (slice_get (schema_of tables) n)
 rules_at tables n d less = sym (ap rules_of (declared_as tables n d less))
 
