@@ -1,7 +1,37 @@
 -- How deep expressions, conditions and blocks are; parentheses and brackets have no place in the trees.
 use Rattle.std.specs.Prelude.{ℕ, ◌+◌, List, [], ◌∷◌, ◌++◌, map, max, Some, None}
-use Rattle.sv_app.specs.Trees.{Term, Number, Words, Variable, Field, Old, Minus, Sum, Difference, Product, Test, Compare, Negation, Both, Either,
-  Command, Declare, Assign, Fetch, Choose, ForRows, ForEach, Insert, Update, Remove, Abort, Reply, Block, Finish, Then}
+use Rattle.sv_app.specs.Trees.{
+  Term,
+  Number,
+  Words,
+  Variable,
+  Field,
+  Old,
+  Minus,
+  Sum,
+  Difference,
+  Product,
+  Test,
+  Compare,
+  Negation,
+  Both,
+  Either,
+  Command,
+  Declare,
+  Assign,
+  Fetch,
+  Choose,
+  ForRows,
+  ForEach,
+  Insert,
+  Update,
+  Remove,
+  Abort,
+  Reply,
+  Block,
+  Finish,
+  Then,
+}
 
 abbrev pub term_depth : Term → ℕ
 term_depth (Number n s) = 1

@@ -9,8 +9,39 @@ use Rattle.sv_app.specs.declared.schemas.Ty.{Ty}
 use Rattle.sv_app.specs.Lookups.{is_named, table_of, table_names}
 use Rattle.sv_app.specs.Numbers.{numbered_in, columns_meant}
 use Rattle.sv_app.specs.Schema.{Declaration}
-use Rattle.sv_app.specs.Trees.{Term, Number, Words, Variable, Field, Old, Minus, Sum, Difference, Product, Test, Compare, Negation, Both, Either,
-  Command, Declare, Assign, Fetch, Choose, ForRows, ForEach, Insert, Update, Remove, Abort, Reply, Block, Finish, Then, Transaction}
+use Rattle.sv_app.specs.Trees.{
+  Term,
+  Number,
+  Words,
+  Variable,
+  Field,
+  Old,
+  Minus,
+  Sum,
+  Difference,
+  Product,
+  Test,
+  Compare,
+  Negation,
+  Both,
+  Either,
+  Command,
+  Declare,
+  Assign,
+  Fetch,
+  Choose,
+  ForRows,
+  ForEach,
+  Insert,
+  Update,
+  Remove,
+  Abort,
+  Reply,
+  Block,
+  Finish,
+  Then,
+  Transaction,
+}
 use Rattle.sv_app.specs.TxnNames.{declares}
 
 -- the tables, the names that the transaction declares, and, behind `set`, the columns of the table that is updated

@@ -19,8 +19,39 @@ use Rattle.sv_app.specs.Lookups.{column_of, table_of, is_key, holds_of, column_n
 use Rattle.sv_app.specs.Schema.{Declaration}
 use Rattle.sv_app.specs.Scopes.{Scope, meaning_of, knowing, updating, opening}
 use Rattle.sv_app.specs.TermTypes.{type_of, spot_of, are_apart}
-use Rattle.sv_app.specs.Trees.{Term, Number, Words, Variable, Field, Old, Minus, Sum, Difference, Product, Test, Compare, Negation, Both, Either,
-  Command, Declare, Assign, Fetch, Choose, ForRows, ForEach, Insert, Update, Remove, Abort, Reply, Block, Finish, Then, Transaction}
+use Rattle.sv_app.specs.Trees.{
+  Term,
+  Number,
+  Words,
+  Variable,
+  Field,
+  Old,
+  Minus,
+  Sum,
+  Difference,
+  Product,
+  Test,
+  Compare,
+  Negation,
+  Both,
+  Either,
+  Command,
+  Declare,
+  Assign,
+  Fetch,
+  Choose,
+  ForRows,
+  ForEach,
+  Insert,
+  Update,
+  Remove,
+  Abort,
+  Reply,
+  Block,
+  Finish,
+  Then,
+  Transaction,
+}
 use Rattle.sv_app.specs.TxnNames.{names_of}
 use Rattle.sv_app.specs.Typing.{fault_if, is_text, repeats, no_column, faults}
 

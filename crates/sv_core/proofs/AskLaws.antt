@@ -7,32 +7,34 @@ use Rattle.sv_value.specs.declared.packets.Packet.{Packet}
 use Rattle.sv_value.specs.declared.packets.Packet.TheVariants.{Blue}
 use Rattle.sv_value.specs.Cuts.{counts, more, origin}
 use Rattle.sv_app.specs.declared.requests.Request.{Request}
-use Rattle.sv_core.specs.Counters.{Row}
 use Rattle.sv_core.specs.Document.{Document}
-use Rattle.sv_core.specs.declared.ops.RowEffect.{RowEffect}
-use Rattle.sv_core.specs.declared.ops.Op.{Op}
+use Rattle.sv_effect.specs.declared.ops.RowEffect.{RowEffect}
+use Rattle.sv_effect.specs.declared.ops.Op.{Op}
 use Rattle.sv_core.specs.declared.runs.Ran.{Ran}
 use Rattle.sv_core.specs.declared.sites.SiteState.{SiteState}
 use Rattle.sv_core.specs.declared.entries.Reply.TheVariants as reply
 use Rattle.sv_core.specs.declared.entries.Entry.{Entry}
 use Rattle.sv_core.specs.declared.entries.Entry.TheVariants.{Answer, Apply}
-use Rattle.sv_core.specs.Cut.{as_deps}
-use Rattle.sv_core.specs.Applied.{with_changes, place_of}
-use Rattle.sv_core.specs.TablesOfCut.{tables_of}
+use Rattle.sv_effect.specs.Cut.{as_deps}
+use Rattle.std.specs.Prelude.{max}
+use Rattle.sv_effect.specs.declared.ops.Need.{Need}
+use Rattle.sv_effect.specs.Applied.{applied}
+use Rattle.sv_effect.specs.Commutes.{TablesFit}
+use Rattle.sv_effect.specs.TablesOfCut.{tables_of}
+use Rattle.sv_core.specs.Clock.{latest_in}
+use Rattle.sv_core.specs.Takes.{CanTake}
 use Rattle.sv_core.specs.Run.{run_of}
 use Rattle.sv_core.specs.Sound.{Sound}
 use Rattle.sv_core.specs.History.{History, cut_of, back_to, op_of, published, tables_at, answers, answered}
 use Rattle.sv_core.specs.Legal.{home, Legal, IsNext, FitsDoc}
-use Rattle.sv_core.specs.Rows.{CanTake, HasRow}
 use Rattle.sv_core.specs.World.{packet_due, answer_due}
 use Rattle.sv_core.specs.WorldState.{Stands, Keeps, IsReply, Publishes}
 use Rattle.sv_core.proofs.ListLaws.{get_last}
 use Rattle.sv_core.proofs.CutLaws.{same_test, other_test}
 use Rattle.sv_core.proofs.HistoryLaws.{own, back_to_now}
-use Rattle.sv_core.proofs.BirthLaws.{Birth, birth}
 use Rattle.sv_core.proofs.RoomLaws.{answers_few}
-use Rattle.sv_core.proofs.TakeLaws.{row_within, row_stays, one_taken}
-use Rattle.sv_core.proofs.StepLaws.{tables_brought, tables_rest, brings_more, brings_none, due_next}
+use Rattle.sv_core.proofs.TakeLaws.{takes}
+use Rattle.sv_core.proofs.StepLaws.{tables_stay, stands_brought, stands_rest, brings_more, brings_none, due_next}
 use Rattle.sv_core.proofs.WorldLaws.{set_get, length-set-at, place_site}
 
 -- a session's answers are among all answers
@@ -81,7 +83,7 @@ keeps_reply doc h lists sites counts capacity session (Answer k index request si
       lists_long = keeps.lists_long;
       lists_are = keeps.lists_are;
       sites_long = keeps.sites_long;
-      sites_are = λ place state get. let s : Stands doc h (suc place) state = keeps.sites_are place state get in record { cut = s.cut; rows = s.rows };
+      sites_are = λ place state get. let s : Stands doc h (suc place) state = keeps.sites_are place state get in record { cut = s.cut; clock = s.clock; rows = s.rows; fit = s.fit };
       answers_are = λ s one most. counted h k s counts next.from next.to long keeps.answers_are one most;
       room = keeps.room;
     })
@@ -112,20 +114,33 @@ pub next_of_parts : (doc : Document) (h : History) (session : ℕ) (request : Re
 next_of_parts doc h session request site ran packet e from to fits awaited site_is ran_is packet_is is =
     subst (IsNext doc h) (sym (is ∙ due_is doc h session request site ran packet site_is ran_is packet_is)) (due_next doc h session request from to fits awaited)
 
+-- the operation that these changes and needs make on what the site has
+abbrev pub op_on : Document → History → ℕ → List RowEffect → List Need → Op
+op_on doc h site effects needs = record { time = suc (latest_in (published doc h) (cut_of h site)); site = site; deps = as_deps (cut_of h site); effects = effects; needs = needs }
+
 -- the operation that is due
-pub op_due : (doc : Document) (h : History) (site : ℕ) (request : Request) (effects : List RowEffect) (op : Op) → effects ≡ (run_of request (tables_at doc h site)).effects
-    → op ≡ record { site = site; deps = as_deps (cut_of h site); effects = effects } → op ≡ op_of doc (published doc h) h site (length h) request
-op_due doc h site request effects op effects_are is = is ∙ (λ i. record { site = site; deps = as_deps (cut_of (now i) site); effects = (effects_are ∙ (λ j. (run_of request (tables_of doc.init (published doc h) (cut_of (now j) site))).effects)) i })
+pub op_due : (doc : Document) (h : History) (site : ℕ) (request : Request) (ran : Ran) (op : Op) → ran ≡ run_of request (tables_at doc h site)
+    → op ≡ op_on doc h site ran.effects ran.needs → op ≡ op_of doc (published doc h) h site (length h) request
+op_due doc h site request ran op ran_is is = is ∙ (λ i. record {
+  time = suc (latest_in (published doc h) (cut_of h site));
+  site = site;
+  deps = as_deps (cut_of (now i) site);
+  effects = (whole i).effects;
+  needs = (whole i).needs;
+})
   where
     now : h ≡ back_to (length h) h
     now = sym (back_to_now (length h) h refl)
 
+    whole : ran ≡ run_of request (tables_of doc.schema doc.init (published doc h) (cut_of (back_to (length h) h) site))
+    whole = ran_is ∙ (λ j. run_of request (tables_of doc.schema doc.init (published doc h) (cut_of (now j) site)))
+
 pub publishes_of_parts : (doc : Document) (h : History) (session : ℕ) (request : Request) (site : ℕ) (ran : Ran) (packet : Packet) (op : Op) (e : Entry)
     → ran ≡ run_of request (tables_at doc h site) → packet ≡ Blue site (length (published doc h site))
-    → op ≡ record { site = site; deps = as_deps (cut_of h site); effects = ran.effects }
+    → op ≡ op_on doc h site ran.effects ran.needs
     → e ≡ Answer session (answered h session) request site (length h) (reply.Ran ran.outcome) (Some packet) → Publishes doc h session site op e
 publishes_of_parts doc h session request site ran packet op e ran_is packet_is op_is is =
-    subst (Publishes doc h session site op) (sym is) (refl, refl, packet_is, op_due doc h site request ran.effects op (ap (λ r. r.effects) ran_is) op_is)
+    subst (Publishes doc h session site op) (sym is) (refl, refl, packet_is, op_due doc h site request ran op ran_is op_is)
 
 -- changes that are some name the next blue packet
 pub packet_some : (doc : Document) (h : History) (site : ℕ) (effects : List RowEffect) (packet : Packet) → (effects ≡ [] → ⊥) → packet ≡ Blue site (length (published doc h site)) → Some packet ≡ packet_due doc h site effects
@@ -168,20 +183,24 @@ news_stands doc h session site op e n =
     (λ i. slice_get ((n.lists site ∙ if_same site site (published doc h site ++ op ∷ []) (published doc h site) refl) i) (length (published doc h site)))
     ∙ get_last (published doc h site) op
 
+-- it comes next at its site
+next_own : (doc : Document) (h : History) (session site : ℕ) (op : Op) (e : Entry) → Legal doc h → IsNews doc h session site op e → slice_get (published doc (e ∷ h) site) (cut_of h site site) ≡ Some op
+next_own doc h session site op e legal n = ap (slice_get (published doc (e ∷ h) site)) (own doc h legal site) ∙ news_stands doc h session site op e n
+
 -- its site's rows can take it
-pub can_publish : (doc : Document) (h : History) (session site : ℕ) (op : Op) (e : Entry) → Sound doc → Legal doc (e ∷ h) → IsNews doc h session site op e → CanTake (tables_at doc h site) op.effects
-can_publish doc h session site op e sound legal n =
-    let b : Birth doc site (length (published doc h site)) op = birth doc (e ∷ h) sound.some sound.sites legal site (length (published doc h site)) op (news_stands doc h session site op e n) in
-    let kept : (row : Row) × (get (tables_at doc h site) (place_of b.effect) ≡ Some row) = row_stays doc h site (place_of b.effect) b.known in
-    one_taken (tables_at doc h site) b.effect op.effects b.only (subst HasRow (sym kept.1) (row_within doc h site sound legal.1 (place_of b.effect) kept.0 kept.1))
+pub can_publish : (doc : Document) (h : History) (session site : ℕ) (op : Op) (e : Entry) (state : SiteState) → Sound doc → Legal doc (e ∷ h) → IsNews doc h session site op e → Stands doc h site state
+    → CanTake doc.schema op state.store
+can_publish doc h session site op e state sound legal n s =
+    takes doc (e ∷ h) (cut_of h site) site op state.store sound legal (next_own doc h session site op e legal.1 n) (s.rows ∙ tables_stay doc h e site legal.1) s.fit
 
 -- the world after an answer that publishes an operation
 pub keeps_published : (doc : Document) (h : History) (lists new_lists : List (List Op)) (sites : List SiteState) (counted_before : List ℕ) (capacity session site : ℕ) (op : Op) (e : Entry) (old new : SiteState)
     → length counted_before ≡ 64 → Keeps doc h lists sites counted_before capacity → IsNext doc h e → IsNews doc h session site op e → 1 ≤ site → site ≤ doc.sites
     → new_lists ≡ set lists (site - 1) (published doc h site ++ op ∷ [])
-    → slice_get sites (site - 1) ≡ Some old → ((o : ℕ) → counts new.cut o ≡ more (counts old.cut) site o) → new.rows ≡ with_changes op.effects old.rows
+    → slice_get sites (site - 1) ≡ Some old → ((o : ℕ) → counts new.cut o ≡ more (counts old.cut) site o) → new.clock ≡ max old.clock op.time
+    → new.store.tables ≡ applied doc.schema op old.store.tables → TablesFit doc.schema new.store.tables
     → Keeps doc (e ∷ h) new_lists (set sites (site - 1) new) (set counted_before (session - 1) (get_or counted_before (session - 1) 0 + 1)) capacity
-keeps_published doc h lists new_lists sites before capacity session site op e old new long keeps next n one most lists_new was cut rows = record {
+keeps_published doc h lists new_lists sites before capacity session site op e old new long keeps next n one most lists_new was cut clock rows fit = record {
   sound = keeps.sound;
   legal = (next, keeps.legal);
   lists_long = ap length lists_new ∙ length-set-at lists (site - 1) (published doc h site ++ op ∷ []) ∙ keeps.lists_long;
@@ -207,23 +226,12 @@ keeps_published doc h lists new_lists sites before capacity session site op e ol
     grows : (x : ℕ) → cut_of (e ∷ h) site x ≡ more (cut_of h site) site x
     grows x = n.cuts site x ∙ brings_more h site site site x true refl
 
-    small : site < 9
-    small = omega (arith, most, keeps.sound.sites)
-
-    stands : slice_get (published doc (e ∷ h) site) (cut_of h site site) ≡ Some op
-    stands = ap (slice_get (published doc (e ∷ h) site)) (own doc h keeps.legal site) ∙ news_stands doc h session site op e n
-
     here : Stands doc (e ∷ h) site new
-    here = record {
-      cut = λ o. cut o ∙ (λ i. more (λ x. was_stands.cut x i) site o) ∙ sym (grows o);
-      rows = rows ∙ ap (with_changes op.effects) was_stands.rows ∙ sym (tables_brought doc h e site site op keeps.legal small grows stands);
-    }
+    here = stands_brought doc h e site site op old new keeps.sound (next, keeps.legal) was_stands grows (next_own doc h session site op e keeps.legal n) cut clock rows fit
 
     there : (place : ℕ) (state : SiteState) → (place ≡ site - 1 → ⊥) → slice_get sites place ≡ Some state → Stands doc (e ∷ h) (suc place) state
     there place state apart get =
-        let s : Stands doc h (suc place) state = keeps.sites_are place state get in
-        let rests : (x : ℕ) → cut_of (e ∷ h) (suc place) x ≡ cut_of h (suc place) x = λ x. n.cuts (suc place) x ∙ brings_none h (suc place) site site x (λ is. apart (omega (arith, is))) in
-        record { cut = λ o. s.cut o ∙ sym (rests o); rows = s.rows ∙ sym (tables_rest doc h e (suc place) keeps.legal rests) }
+        stands_rest doc h e (suc place) state keeps.legal (keeps.sites_are place state get) (λ x. n.cuts (suc place) x ∙ brings_none h (suc place) site site x (λ is. apart (omega (arith, is))))
 
     state_of : (place : ℕ) (state : SiteState) → ((place ≡ site - 1) × (new ≡ state)) ⊎ ((place ≡ site - 1 → ⊥) × (slice_get sites place ≡ Some state)) → Stands doc (e ∷ h) (suc place) state
     state_of place state (inl both) = subst (λ x. Stands doc (e ∷ h) (suc place) x) both.1 (subst (λ s. Stands doc (e ∷ h) s new) (sym (place_site site place one both.0)) here)

@@ -7,13 +7,13 @@ use Rattle.sv_value.specs.declared.packets.Packet.TheVariants.{Blue, Red}
 use Rattle.sv_value.specs.Cuts.{counts, origin, number}
 use Rattle.sv_app.specs.declared.requests.Request.{Request}
 use Rattle.sv_core.specs.Document.{Document}
-use Rattle.sv_core.specs.declared.ops.RowEffect.{RowEffect}
-use Rattle.sv_core.specs.declared.ops.Op.{Op}
+use Rattle.sv_effect.specs.declared.ops.RowEffect.{RowEffect}
+use Rattle.sv_effect.specs.declared.ops.Op.{Op}
 use Rattle.sv_core.specs.declared.entries.Reply.{Reply}
 use Rattle.sv_core.specs.declared.entries.Entry.{Entry}
 use Rattle.sv_core.specs.declared.entries.Entry.TheVariants.{Answer, Apply}
-use Rattle.sv_core.specs.Cut.{Cut, as_deps, Lies}
-use Rattle.sv_core.specs.TablesOfCut.{tables_held, tables_of}
+use Rattle.sv_effect.specs.Cut.{Cut, as_deps, Lies}
+use Rattle.sv_effect.specs.TablesOfCut.{tables_held, tables_of}
 use Rattle.sv_core.specs.Run.{run_of}
 use Rattle.sv_core.specs.History.{History, brings, cut_of, back_to, op_of, news, published, tables_at}
 use Rattle.sv_core.specs.Legal.{home, Legal, IsAnswer, IsPacket}
@@ -52,7 +52,7 @@ long_since doc (suc n) (x ∷ h) o =
     let b : length (published doc h o) ≤ length (published doc (x ∷ h) o) = news_longer (news doc (published doc h) h x) (published doc h) o in
     omega (arith, a, b)
 
-held_since : (doc : Document) (n : ℕ) (h : History) (c : Cut) → Lies (published doc (drop n h)) c → (o : ℕ) → take (c o) (published doc (drop n h) o) ≡ take (c o) (published doc h o)
+pub held_since : (doc : Document) (n : ℕ) (h : History) (c : Cut) → Lies (published doc (drop n h)) c → (o : ℕ) → take (c o) (published doc (drop n h) o) ≡ take (c o) (published doc h o)
 held_since doc zero h c lies o = refl
 held_since doc (suc n) [] c lies o = refl
 held_since doc (suc n) (x ∷ h) c lies o =
@@ -63,8 +63,8 @@ held_since doc (suc n) (x ∷ h) c lies o =
 
 -- a cut's tables don't change when more is published
 pub tables_since : (doc : Document) (n : ℕ) (h : History) (c : Cut) → Lies (published doc (drop n h)) c
-    → tables_of doc.init (published doc (drop n h)) c ≡ tables_of doc.init (published doc h) c
-tables_since doc n h c lies = λ i. tables_held doc.init (λ o. held_since doc n h c lies o i)
+    → tables_of doc.schema doc.init (published doc (drop n h)) c ≡ tables_of doc.schema doc.init (published doc h) c
+tables_since doc n h c lies = λ i. tables_held doc.schema doc.init (λ o. held_since doc n h c lies o i)
 
 pub at_end : (n : ℕ) (h : History) → n ≡ 0 → drop n h ≡ h
 at_end zero h e = refl

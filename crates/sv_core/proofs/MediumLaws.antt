@@ -2,8 +2,8 @@
 use Rattle.std.proofs.Common.{◌≡◌, ◌⊎◌, inl, inr, ℕ, suc, ◌≤◌, ◌==◌, if◌then◌else◌, Bool, true, false, [], ◌∷◌, ◌++◌, length, take, Option, Some, None, slice_get, refl, sym, subst, arith}
 use Rattle.std.proofs.lemmas.List.{length_push}
 use Rattle.std.proofs.lemmas.Bool.{cases_eq}
-use Rattle.sv_core.specs.declared.ops.Op.{Op}
-use Rattle.sv_core.specs.Cut.{Medium}
+use Rattle.sv_effect.specs.declared.ops.Op.{Op}
+use Rattle.sv_effect.specs.Cut.{Medium}
 use Rattle.sv_core.specs.History.{with_news}
 use Rattle.sv_core.proofs.ListLaws.{get_front, get_pushed, take_front}
 use Rattle.sv_core.proofs.CutLaws.{same_test, other_test}

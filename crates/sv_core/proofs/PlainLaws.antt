@@ -2,28 +2,29 @@
 use Rattle.std.proofs.Common.{◌≡◌, ℕ, zero, suc, ◌+◌, ◌<◌, ◌≤◌, if◌then◌else◌, Bool, true, false, List, [], ◌∷◌, ◌++◌, length, take, drop, get_or, set, ◌⊎◌, inl, inr, ◌-◌, ◌==◌, Option, Some, refl, sym, ap, subst, ◌∙◌, arith}
 use Rattle.std.specs.Prelude.{reverse, count_by, cond, map, Result, Ok, Err, IfOk, IsTrue, ◌↔◌}
 use Rattle.std.proofs.lemmas.List.{take_more, take-append-drop, reverse-append, get_or-set_same, get_or-set_other, map-set, length-map, get_or-map}
-use Rattle.std.proofs.lemmas.Grind.{same_number_lists}
 use Rattle.std.proofs.lemmas.Bool.{cases_eq}
 use Rattle.std.proofs.lemmas.List.Recursion.{is_count_by}
 use Rattle.sv_value.specs.declared.packets.Packet.{Packet}
-use Rattle.sv_value.specs.declared.cuts.Cut.{Cut as CodeCut}
 use Rattle.sv_value.specs.Cuts.{counts, origin}
 use Rattle.sv_app.specs.declared.requests.Request.{Request}
 use Rattle.sv_core.specs.Document.{Document}
-use Rattle.sv_core.specs.declared.ops.Op.{Op}
+use Rattle.sv_effect.specs.declared.ops.Op.{Op}
 use Rattle.sv_core.specs.declared.entries.Entry.{Entry}
 use Rattle.sv_core.specs.declared.entries.Entry.TheVariants.{Answer}
 use Rattle.sv_core.specs.declared.entries.Reply.{Reply}
 use Rattle.sv_core.specs.declared.entries.Reply.TheVariants.{Ran}
+use Rattle.sv_core.specs.declared.runs.Ran.{Ran as RanHere}
+use Rattle.sv_core.specs.Clock.{latest_in}
 use Rattle.sv_core.specs.Run.{run_of}
 use Rattle.sv_core.specs.Legal.{Legal, IsNext, IsAnswer, IsPacket}
-use Rattle.sv_core.specs.Cut.{Cut, all_sites, as_deps}
-use Rattle.sv_core.specs.TablesOfCut.{tables_of}
+use Rattle.sv_effect.specs.Cut.{Cut, as_deps}
+use Rattle.sv_effect.specs.TablesOfCut.{tables_of}
 use Rattle.sv_core.specs.History.{History, count_where, cut_of, back_to, op_of, news, with_news, published, tables_at}
 use Rattle.sv_core.specs.Plain.{medium_of, with_entry, named_by_site, Told, IsAsked, IsPlaced, IsJudged}
-use Rattle.sv_core.proofs.CutLaws.{same_test, other_test}
+use Rattle.sv_core.proofs.CutLaws.{same_test, other_test, deps_are}
 use Rattle.sv_core.proofs.HistoryLaws.{cut_grows, within, back_to_now, packed}
 use Rattle.sv_core.proofs.RoomLaws.{published_few}
+use Rattle.sv_core.proofs.AskLaws.{op_on, op_due}
 
 one_where : (p : Entry → Bool) (b : Bool) (m n : ℕ) → (if b then suc (m + n) else (m + n)) ≡ (if b then suc m else m) + n
 one_where p true m n = omega arith
@@ -89,11 +90,11 @@ cut_fits entries i e s cut lt is same fits o =
 pub told_fits : (doc : Document) (h : History) (lists : List (List Op)) (s : ℕ) → Told doc h lists → (o : ℕ) → cut_of h s o ≤ 4294967295
 told_fits doc h lists s told o =
     let a : cut_of h s o ≤ length (published doc h o) = within doc h told.legal s o in
-    let b : length (published doc h o) ≤ doc.asks = published_few doc h (told.some, told.few) told.legal o in
-    omega (arith, a, b, told.small)
+    let b : length (published doc h o) ≤ doc.asks = published_few doc h (told.sound.some, told.sound.sites) told.legal o in
+    omega (arith, a, b, told.sound.asks)
 
-pub told_tables : (doc : Document) (h : History) (lists : List (List Op)) (s : ℕ) (cut : Cut) → Told doc h lists → ((o : ℕ) → cut o ≡ cut_of h s o) → tables_of doc.init (medium_of lists) cut ≡ tables_at doc h s
-told_tables doc h lists s cut told same = λ i. tables_of doc.init (λ o. told.lists_are o i) (λ o. same o i)
+pub told_tables : (doc : Document) (h : History) (lists : List (List Op)) (s : ℕ) (cut : Cut) → Told doc h lists → ((o : ℕ) → cut o ≡ cut_of h s o) → tables_of doc.schema doc.init (medium_of lists) cut ≡ tables_at doc h s
+told_tables doc h lists s cut told same = λ i. tables_of doc.schema doc.init (λ o. told.lists_are o i) (λ o. same o i)
 
 -- an answer that is due has its parts, and these are all
 pub judged_of : (doc : Document) (h : History) (session index : ℕ) (request : Request) (site at : ℕ) (reply : Reply) (packet : Option Packet)
@@ -124,42 +125,25 @@ answer_of_parts doc h session index request site at reply packet asked placed ju
     now : back_to at h ≡ h
     now = back_to_now at h placed.place
 
--- a cut as operations carry it, by its counts
-site_at : (f : Cut) (k : ℕ) → k < 8 → get_or (map f all_sites) k 0 ≡ f (suc k)
-site_at f zero lt = refl
-site_at f (suc zero) lt = refl
-site_at f (suc (suc zero)) lt = refl
-site_at f (suc (suc (suc zero))) lt = refl
-site_at f (suc (suc (suc (suc zero)))) lt = refl
-site_at f (suc (suc (suc (suc (suc zero))))) lt = refl
-site_at f (suc (suc (suc (suc (suc (suc zero)))))) lt = refl
-site_at f (suc (suc (suc (suc (suc (suc (suc zero))))))) lt = refl
-site_at f (suc (suc (suc (suc (suc (suc (suc (suc n)))))))) lt = absurd (omega (arith, lt))
-
-deps_are : (cut : CodeCut) (f : Cut) → length cut.blue ≡ 8 → ((o : ℕ) → counts cut o ≡ f o) → cut ≡ as_deps f
-deps_are cut f long each = λ i. record { blue = blue i; reds = each 0 i }
-  where
-    blue : cut.blue ≡ map f all_sites
-    blue = same_number_lists cut.blue (map f all_sites) long (λ k lt. each (suc k) ∙ sym (site_at f k (omega (arith, lt, long))))
-
 -- a test of a fact is one of each fact that says the same
 pub if_same : {E : Type 0} (r : Result Bool E) (P Q : Type 0) → (P → Q) → (Q → P) → IfOk r (λ b. IsTrue b ↔ P) → IfOk r (λ b. IsTrue b ↔ Q)
 if_same (Ok b) P Q to from e = (λ t. to (e.0 t), λ q. e.1 (from q))
 if_same (Err error) P Q to from e = tt
 
 -- the operation of an answer that is due now
-pub op_is : (doc : Document) (h : History) (site : ℕ) (request : Request) (op : Op) → op.site ≡ site → length op.deps.blue ≡ 8
-    → ((o : ℕ) → counts op.deps o ≡ cut_of h site o) → op.effects ≡ (run_of request (tables_at doc h site)).effects → op ≡ op_of doc (published doc h) h site (length h) request
-op_is doc h site request op at long each effects = λ i. record { site = at i; deps = deps i; effects = made i }
+pub op_is : (doc : Document) (h : History) (site : ℕ) (request : Request) (ran : RanHere) (op : Op) → ran ≡ run_of request (tables_at doc h site) → op.time ≡ suc (latest_in (published doc h) (cut_of h site))
+    → op.site ≡ site → length op.deps.blue ≡ 8 → ((o : ℕ) → counts op.deps o ≡ cut_of h site o) → op.effects ≡ ran.effects → op.needs ≡ ran.needs → op ≡ op_of doc (published doc h) h site (length h) request
+op_is doc h site request ran op ran_is timed at long each effects needs = whole ∙ op_due doc h site request ran (op_on doc h site ran.effects ran.needs) ran_is refl
   where
-    now : h ≡ back_to (length h) h
-    now = sym (back_to_now (length h) h refl)
+    deps : op.deps ≡ as_deps (cut_of h site)
+    deps = deps_are op.deps (cut_of h site) long each
 
-    deps : op.deps ≡ as_deps (cut_of (back_to (length h) h) site)
-    deps = deps_are op.deps (cut_of h site) long each ∙ ap (λ g. as_deps (cut_of g site)) now
+    whole : op ≡ op_on doc h site ran.effects ran.needs
+    whole = λ i. record { time = timed i; site = at i; deps = deps i; effects = effects i; needs = needs i }
 
-    made : op.effects ≡ (run_of request (tables_of doc.init (published doc h) (cut_of (back_to (length h) h) site))).effects
-    made = effects ∙ ap (λ g. (run_of request (tables_of doc.init (published doc h) (cut_of g site))).effects) now
+-- the greatest time of what the lists hold is that of the site
+pub told_latest : (doc : Document) (h : History) (lists : List (List Op)) (s : ℕ) (cut : Cut) → Told doc h lists → ((o : ℕ) → cut o ≡ cut_of h s o) → latest_in (medium_of lists) cut ≡ latest_in (published doc h) (cut_of h s)
+told_latest doc h lists s cut told same = λ i. latest_in (λ o. told.lists_are o i) (λ o. same o i)
 
 pub news_is : (doc : Document) (h : History) (session index : ℕ) (request : Request) (site at : ℕ) (reply : Reply) (packet : Packet) (op : Op)
     → IsAnswer doc h session index request site at reply (Some packet) → op ≡ op_of doc (published doc h) h site (length h) request

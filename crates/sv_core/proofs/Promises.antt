@@ -8,30 +8,39 @@ use Rattle.sv_value.specs.declared.packets.Packet.{Packet}
 use Rattle.sv_value.specs.Cuts.{counts, Covers, origin, number}
 use Rattle.sv_core.specs.Document.{Document}
 use Rattle.sv_core.specs.Sound.{Sound}
-use Rattle.sv_core.specs.declared.ops.Op.{Op}
+use Rattle.sv_effect.specs.declared.ops.Op.{Op}
 use Rattle.sv_core.specs.declared.entries.Entry.{Entry}
 use Rattle.sv_core.specs.declared.entries.Entry.TheVariants.{Answer, Apply}
 use Rattle.sv_core.specs.declared.entries.Delivered.{Delivered}
 use Rattle.sv_core.specs.declared.entries.Delivered.TheVariants.{Applied, Duplicate, Early, Unknown}
-use Rattle.sv_core.specs.Cut.{Cut, as_deps, Closed}
-use Rattle.sv_core.specs.TablesOfCut.{tables_of}
+use Rattle.sv_effect.specs.Cut.{Cut, as_deps, Closed}
+use Rattle.sv_effect.specs.TablesOfCut.{tables_of}
 use Rattle.sv_core.specs.History.{History, brings, cut_of, back_to, op_of, news, published}
 use Rattle.sv_core.specs.Legal.{Legal, IsNext}
 use Rattle.sv_core.specs.World.{first_short, first_missing, origins, packet_at, by_missing, delivered_op, delivered}
 use Rattle.sv_core.specs.Laws as law
-use Rattle.sv_core.specs.Laws.{EachIsNext, IsLacked, IsCause}
+use Rattle.sv_core.specs.Laws.{Merges, EachIsNext, IsLacked, IsCause}
 use Rattle.sv_core.proofs.ListLaws.{get_within, get_some}
 use Rattle.sv_core.proofs.CutLaws.{test_same, both_true}
 use Rattle.sv_core.proofs.HistoryLaws.{cut_grows, within, back_to_now, packed, own, counts_cut}
 use Rattle.sv_core.proofs.MediumLaws.{news_get}
-use Rattle.sv_core.proofs.TableLaws.{tables_of-more}
+use Rattle.sv_effect.proofs.Promises as effects
+use Rattle.sv_core.proofs.MergeLaws.{merges, tables_more}
 use Rattle.sv_core.proofs.WorldLaws.{is_apply, next_is, same_op, unknown_is}
 
 pub equal_cuts : law.EqualCuts
-equal_cuts doc h s t same = λ i. tables_of doc.init (published doc h) (λ o. same o i)
+equal_cuts doc h s t same = λ i. tables_of doc.schema doc.init (published doc h) (λ o. same o i)
+
+pub published_merges : law.PublishedMerges
+published_merges doc h sound legal = merges doc h sound legal
 
 pub one_more : law.OneMore
-one_more init m cut o op small next = tables_of-more init m cut o op small next
+one_more doc h cut o op sound legal next = tables_more doc h cut o op sound legal next
+
+pub any_sequence : law.AnySequence
+any_sequence doc h cut xs sound legal sequence =
+    let m : Merges doc (published doc h) = merges doc h sound legal in
+    effects.any_sequence doc.schema doc.init (published doc h) cut xs m.allowed m.differ m.blues m.own m.eight sequence
 
 each_next : (doc : Document) (h : History) → Legal doc h → EachIsNext doc h
 each_next doc [] legal zero e before at = absurd cc

@@ -1,30 +1,21 @@
--- How long a history and how great a counter can become.
-use Rattle.std.proofs.Common.{◌≡◌, ◌⊎◌, inl, inr, ℕ, zero, suc, ◌<◌, ◌≤◌, ◌+◌, ◌*◌, ◌^◌, ◌==◌, ◌&&◌, if◌then◌else◌, Bool, true, false, List, [], ◌∷◌, length, Some, None, slice_get, refl, sym, ap, subst, ◌∙◌, arith}
-use Rattle.std.specs.Prelude.{ℤ, pos, neg_ℤ, ◌+ℤ◌, int_le, int_lt, IsTrue}
-use Rattle.std.proofs.lemmas.Int.{ints}
+-- How long a history can become.
+use Rattle.std.proofs.Common.{◌≡◌, ◌⊎◌, inl, inr, ℕ, zero, suc, ◌<◌, ◌≤◌, ◌+◌, ◌*◌, ◌==◌, ◌&&◌, if◌then◌else◌, Bool, true, false, [], ◌∷◌, length, Some, None, slice_get, refl, sym, ap, ◌∙◌, arith}
 use Rattle.std.proofs.lemmas.Bool.{cases_eq}
 use Rattle.sv_value.specs.Cuts.{origin, number}
-use Rattle.sv_app.specs.declared.places.Place.{Place}
 use Rattle.sv_core.specs.Document.{Document}
-use Rattle.sv_core.specs.declared.ops.RowEffect.{RowEffect}
-use Rattle.sv_core.specs.declared.ops.Op.{Op}
+use Rattle.sv_effect.specs.declared.ops.Op.{Op}
 use Rattle.sv_core.specs.declared.entries.Entry.{Entry}
 use Rattle.sv_core.specs.declared.entries.Entry.TheVariants.{Answer, Apply}
-use Rattle.sv_core.specs.Cut.{Medium}
-use Rattle.sv_core.specs.Applied.{place_of}
-use Rattle.sv_core.specs.TablesOfCut.{is_place, sum_to, gained, gained_by, gained_in}
-use Rattle.sv_core.specs.Run.{fits64}
-use Rattle.sv_core.specs.Within.{Within}
+use Rattle.sv_effect.specs.Cut.{Medium}
 use Rattle.sv_core.specs.History.{History, brings, cut_of, op_of, published, answers}
 use Rattle.sv_core.specs.Legal.{home, Legal}
-use Rattle.sv_core.proofs.CutLaws.{order, same_test, other_test, both_true}
+use Rattle.sv_core.proofs.CutLaws.{order, same_test, other_test}
 use Rattle.sv_core.proofs.ListLaws.{get_within}
 use Rattle.sv_core.proofs.MediumLaws.{news_long}
 use Rattle.sv_core.proofs.HistoryLaws.{within, few, home_least, home_most, packed}
-use Rattle.sv_core.proofs.BirthLaws.{Birth}
 
 -- a sum below n
-pub total : (ℕ → ℕ) → ℕ → ℕ
+unfoldable pub total : (ℕ → ℕ) → ℕ → ℕ
 total f zero = 0
 total f (suc n) = total f n + f n
 
@@ -176,47 +167,3 @@ published_few doc h sized legal o = from (order o 9)
     from (inr big) =
         let none : length (published doc h o) ≡ 0 = few doc h sized.0 legal o (λ both. let le : o ≤ doc.sites = both.1 in omega (arith, big, le, sized.1)) in
         omega (arith, none)
-
-pub Within-add : (m n : ℕ) (a b : ℤ) → Within m a → Within n b → Within (m + n) (a +ℤ b)
-Within-add m n a b v w = record { low = omega (arith, ints, v.low, w.low); high = omega (arith, ints, v.high, w.high) }
-
--- what fits 64 bits
-pub within64 : (z : ℤ) → IsTrue (fits64 z) → Within (2 ^ 63) z
-within64 z fits =
-    let both = both_true (int_le (neg_ℤ (pos (2 ^ 63))) z) (int_lt z (pos (2 ^ 63))) fits in
-    record { low = grind (arith, ints, both.0); high = grind (arith, ints, both.1) }
-
--- what operations of one change each add to a place
-abbrev pub AreSmall : List Op → Type 0
-AreSmall ops = (q : ℕ) (op : Op) → slice_get ops q ≡ Some op → (p : Place) → Within (2 ^ 63) (gained p op.effects)
-
-gained_one : (p : Place) (e : RowEffect) (es : List RowEffect) → es ≡ e ∷ [] → Within (2 ^ 63) e.delta → Within (2 ^ 63) (gained p es)
-gained_one p e es only w = subst (λ l. Within (2 ^ 63) (gained p l)) (sym only) (one (is_place p (place_of e)))
-  where
-    one : (b : Bool) → Within (2 ^ 63) ((if b then e.delta else pos 0) +ℤ pos 0)
-    one true = record { low = omega (arith, ints, w.low); high = omega (arith, ints, w.high) }
-    one false = record { low = omega (arith, ints); high = omega (arith, ints) }
-
-pub birth_small : (doc : Document) (o q : ℕ) (op : Op) (p : Place) → Birth doc o q op → Within (2 ^ 63) (gained p op.effects)
-birth_small doc o q op p b = gained_one p b.effect op.effects b.only (within64 b.effect.delta b.fits)
-
-gained_by-within : (p : Place) (ops : List Op) → AreSmall ops → Within (length ops * 2 ^ 63) (gained_by p ops)
-gained_by-within p [] small = record { low = omega (arith, ints); high = omega (arith, ints) }
-gained_by-within p (op ∷ ops) small =
-    let rest : Within (length ops * 2 ^ 63) (gained_by p ops) = gained_by-within p ops (λ q x get. small (suc q) x get) in
-    let here : Within (2 ^ 63) (gained p op.effects) = small 0 op refl p in
-    record { low = omega (arith, ints, rest.low, here.low); high = omega (arith, ints, rest.high, here.high) }
-
-sum_to-within : (p : Place) (m : Medium) (n : ℕ) → ((o : ℕ) → AreSmall (m o)) → Within (total (λ o. length (m o)) n * 2 ^ 63) (sum_to (λ o. gained_by p (m o)) n)
-unfolding sum_to total
-sum_to-within p m zero small = record { low = omega (arith, ints); high = omega (arith, ints) }
-sum_to-within p m (suc n) small =
-    let before : Within (total (λ o. length (m o)) n * 2 ^ 63) (sum_to (λ o. gained_by p (m o)) n) = sum_to-within p m n small in
-    let here : Within (length (m n) * 2 ^ 63) (gained_by p (m n)) = gained_by-within p (m n) (small n) in
-    record { low = omega (arith, ints, before.low, here.low); high = omega (arith, ints, before.high, here.high) }
-
--- what a place gains by a family of lists
-pub gained_in-within : (p : Place) (m : Medium) (most : ℕ) → ((o : ℕ) → AreSmall (m o)) → stand m ≤ most → Within (most * 2 ^ 63) (gained_in p m)
-gained_in-within p m most small few =
-    let w : Within (stand m * 2 ^ 63) (gained_in p m) = sum_to-within p m 9 small in
-    record { low = omega (arith, ints, w.low, few); high = omega (arith, ints, w.high, few) }

@@ -1,14 +1,17 @@
 -- The world of a sound document to which nothing has happened.
-use Rattle.std.proofs.Common.{◌≡◌, ℕ, zero, suc, ◌*◌, ◌-◌, ◌≤◌, List, [], length, get_or, Some, slice_get, refl, sym, ap, ◌∙◌, subst, reverse}
+use Rattle.std.proofs.Common.{◌≡◌, ℕ, zero, suc, ◌*◌, ◌-◌, ◌≤◌, List, [], length, get_or, Some, slice_get, refl, sym, ap, ◌∙◌, subst, reverse, arith}
 use Rattle.std.specs.Prelude.{replicate}
-use Rattle.sv_core.specs.declared.ops.Op.{Op}
+use Rattle.sv_effect.specs.declared.ops.Op.{Op}
 use Rattle.sv_core.specs.declared.sites.SiteState.{SiteState}
 use Rattle.sv_core.specs.declared.entries.Entry.{Entry}
 use Rattle.sv_core.specs.Document.{Document}
 use Rattle.sv_core.specs.Sound.{Sound}
-use Rattle.sv_core.specs.TablesOfCut.{tables_held}
-use Rattle.sv_core.specs.Cut.{empty}
-use Rattle.sv_core.specs.WorldState.{AreFresh, Keeps}
+use Rattle.sv_effect.specs.TablesOfCut.{all_to, tables_held}
+use Rattle.sv_effect.specs.Cut.{empty}
+use Rattle.sv_core.specs.Clock.{latest_of}
+use Rattle.sv_core.specs.Takes.{CanStart}
+use Rattle.sv_core.proofs.CounterLaws.{Counter, counter_in_schema, narrow, init_fits}
+use Rattle.sv_core.specs.WorldState.{IsFresh, AreFresh, Keeps}
 
 none_in : (n place : ℕ) (ops : List Op) → slice_get (replicate n []) place ≡ Some ops → ops ≡ []
 none_in zero place ops e = absurd cc
@@ -24,8 +27,12 @@ zero_in zero i = refl
 zero_in (suc n) zero = refl
 zero_in (suc n) (suc i) = zero_in n i
 
+none_late : 0 ≡ latest_of (all_to (λ o. []) 9)
+unfolding all_to
+none_late = refl
+
 pub keeps_start : (doc : Document) (history : List Entry) (lists : List (List Op)) (sites : List SiteState) (counts : List ℕ) (capacity : ℕ) → Sound doc → history ≡ []
-    → lists ≡ replicate doc.sites [] → AreFresh doc.sites (tables_held doc.init empty) sites → counts ≡ replicate {A = ℕ} 64 0 → 9 * doc.asks ≤ capacity
+    → lists ≡ replicate doc.sites [] → AreFresh doc.sites doc.schema (tables_held doc.schema doc.init empty) sites → counts ≡ replicate {A = ℕ} 64 0 → 9 * doc.asks ≤ capacity
     → Keeps doc (reverse history) lists sites counts capacity
 keeps_start doc history lists sites counts capacity sound none lists_are fresh counts_are room = subst (λ h. Keeps doc (reverse h) lists sites counts capacity) (sym none) (record {
   sound = sound;
@@ -33,7 +40,19 @@ keeps_start doc history lists sites counts capacity sound none lists_are fresh c
   lists_long = ap length lists_are ∙ long_none doc.sites;
   lists_are = λ place ops get. none_in doc.sites place ops (ap (λ l. slice_get l place) (sym lists_are) ∙ get);
   sites_long = fresh.long;
-  sites_are = λ place state get. record { cut = fresh.cuts place state get; rows = fresh.all place state get };
+  sites_are = λ place state get. let f : IsFresh doc.schema (tables_held doc.schema doc.init empty) state = fresh.all place state get in record { cut = f.cut; clock = f.clock ∙ none_late; rows = f.rows; fit = f.fit };
   answers_are = λ session from to. ap (λ l. get_or l (session - 1) 0) counts_are ∙ zero_in 64 (session - 1);
   room = room;
 })
+
+-- a store can start with the rows of a sound document
+pub can_start : (doc : Document) → Sound doc → CanStart doc.schema doc.init
+can_start doc sound = record {
+  narrow = narrow doc.schema c;
+  fits = λ i d lt. init_fits doc.schema c (get_or doc.init i d) (sound.rows i d lt);
+  distinct = sound.distinct;
+  few = omega (arith, sound.few);
+}
+  where
+    c : Counter doc.schema
+    c = counter_in_schema doc.schema sound.schema

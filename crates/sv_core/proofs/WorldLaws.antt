@@ -8,13 +8,16 @@ use Rattle.sv_value.specs.declared.packets.Packet.{Packet}
 use Rattle.sv_value.specs.declared.packets.Packet.TheVariants.{Blue, Red}
 use Rattle.sv_value.specs.Cuts.{counts, more, Covers, origin, number}
 use Rattle.sv_core.specs.Document.{Document}
-use Rattle.sv_core.specs.declared.ops.Op.{Op}
+use Rattle.sv_effect.specs.declared.ops.Op.{Op}
 use Rattle.sv_core.specs.declared.sites.SiteState.{SiteState}
 use Rattle.sv_core.specs.declared.entries.Delivered.TheVariants.{Applied, Duplicate, Unknown}
 use Rattle.sv_core.specs.declared.entries.Entry.{Entry}
 use Rattle.sv_core.specs.declared.entries.Entry.TheVariants.{Apply}
-use Rattle.sv_core.specs.Cut.{Cut}
-use Rattle.sv_core.specs.Applied.{with_changes}
+use Rattle.sv_effect.specs.Cut.{Cut}
+use Rattle.std.specs.Prelude.{max}
+use Rattle.sv_effect.specs.Applied.{applied}
+use Rattle.sv_effect.specs.Commutes.{TablesFit}
+use Rattle.sv_core.specs.Takes.{CanTake}
 use Rattle.sv_core.specs.Sound.{Sound}
 use Rattle.sv_core.specs.History.{History, cut_of, published, answers}
 use Rattle.sv_core.specs.Legal.{Legal, IsApply}
@@ -23,10 +26,10 @@ use Rattle.sv_core.specs.WorldState.{listed, Stands, Keeps}
 use Rattle.sv_core.proofs.CutLaws.{order}
 use Rattle.sv_core.proofs.HistoryLaws.{within, few}
 use Rattle.sv_core.proofs.BirthLaws.{Birth, birth}
-use Rattle.sv_core.proofs.RoomLaws.{small_origin, length_few, published_few}
-use Rattle.sv_core.specs.Rows.{CanTake}
-use Rattle.sv_core.proofs.TakeLaws.{sized, can_take}
-use Rattle.sv_core.proofs.StepLaws.{tables_brought, tables_rest, brings_more, brings_none}
+use Rattle.sv_core.proofs.RoomLaws.{length_few, published_few}
+use Rattle.sv_core.proofs.MergeLaws.{sized}
+use Rattle.sv_core.proofs.TakeLaws.{takes}
+use Rattle.sv_core.proofs.StepLaws.{stands_brought, stands_rest, brings_more, brings_none}
 
 get_or-past : {A : Type 0} (xs : List A) (i : ℕ) (d : A) → length xs ≤ i → get_or xs i d ≡ d
 get_or-past [] i d le = refl
@@ -183,29 +186,30 @@ pub record CanBring (doc : Document) (h : History) (packet : Packet) (state : Si
   pub inside : number packet < length (published doc h (origin packet))
   pub few : length (published doc h (origin packet)) ≤ 8192
   pub room : counts state.cut (origin packet) < 4294967295
-  pub rows : CanTake state.rows op.effects
+  pub store : CanTake doc.schema op state.store
 
-pub can_bring : (doc : Document) (h : History) (site : ℕ) (packet : Packet) (state : SiteState) → Sound doc → Legal doc h → Stands doc h site state → delivered doc h site packet ≡ Applied → CanBring doc h packet state
-can_bring doc h site packet state sound legal s e =
-    let r : IsReady doc h site packet = ready doc h site packet e in
+pub can_bring : (doc : Document) (h : History) (site : ℕ) (packet : Packet) (state : SiteState) → Sound doc → Legal doc h → 1 ≤ site → site ≤ doc.sites → Stands doc h site state
+    → delivered doc h site packet ≡ Applied → CanBring doc h packet state
+can_bring doc h site packet state sound legal from to s e =
+    let a : IsApply doc h site packet = is_apply doc h site packet sound legal from to e in
     let few_asked : length (published doc h (origin packet)) ≤ doc.asks = published_few doc h (sized doc sound) legal (origin packet) in
     let had : cut_of h site (origin packet) ≤ length (published doc h (origin packet)) = within doc h legal site (origin packet) in
     record {
-      op = r.op;
-      stands = r.stands;
-      inside = slice_get_within (published doc h (origin packet)) (number packet) r.op r.stands;
+      op = a.op;
+      stands = a.stands;
+      inside = slice_get_within (published doc h (origin packet)) (number packet) a.op a.stands;
       few = omega (arith, few_asked, sound.asks);
       room = omega (arith, s.cut (origin packet), had, few_asked, sound.asks);
-      rows = subst (λ t. CanTake t r.op.effects) (sym s.rows) (can_take doc h site sound legal (origin packet) (number packet) r.op r.stands);
+      store = takes doc h (cut_of h site) (origin packet) a.op state.store sound legal (ap (slice_get (published doc h (origin packet))) (sym (next_is doc h site packet sound legal a)) ∙ a.stands) s.rows s.fit;
     }
 
 -- the world after a packet was applied
 pub keeps_applied : (doc : Document) (h : History) (lists : List (List Op)) (sites : List SiteState) (answers : List ℕ) (capacity site : ℕ) (packet : Packet) (op : Op) (old new : SiteState)
     → Keeps doc h lists sites answers capacity → 1 ≤ site → site ≤ doc.sites → delivered doc h site packet ≡ Applied
     → slice_get (published doc h (origin packet)) (number packet) ≡ Some op → slice_get sites (site - 1) ≡ Some old
-    → ((o : ℕ) → counts new.cut o ≡ more (counts old.cut) (origin packet) o) → new.rows ≡ with_changes op.effects old.rows
-    → Keeps doc (Apply site packet ∷ h) lists (set sites (site - 1) new) answers capacity
-keeps_applied doc h lists sites answers capacity site packet op old new keeps one most e stands was cut rows = record {
+    → ((o : ℕ) → counts new.cut o ≡ more (counts old.cut) (origin packet) o) → new.clock ≡ max old.clock op.time → new.store.tables ≡ applied doc.schema op old.store.tables
+    → TablesFit doc.schema new.store.tables → Keeps doc (Apply site packet ∷ h) lists (set sites (site - 1) new) answers capacity
+keeps_applied doc h lists sites answers capacity site packet op old new keeps one most e stands was cut clock rows fit = record {
   sound = keeps.sound;
   legal = (apply, keeps.legal);
   lists_long = keeps.lists_long;
@@ -225,9 +229,6 @@ keeps_applied doc h lists sites answers capacity site packet op old new keeps on
     before : Stands doc h site old
     before = subst (λ s. Stands doc h s old) back (keeps.sites_are (site - 1) old was)
 
-    small : origin packet < 9
-    small = small_origin doc h (origin packet) (number packet) op (sized doc keeps.sound) keeps.legal stands
-
     grows : (x : ℕ) → cut_of (Apply site packet ∷ h) site x ≡ more (cut_of h site) (origin packet) x
     grows x = brings_more h site site (origin packet) x true refl
 
@@ -235,16 +236,11 @@ keeps_applied doc h lists sites answers capacity site packet op old new keeps on
     next = ap (slice_get (published doc h (origin packet))) (sym (next_is doc h site packet keeps.sound keeps.legal apply)) ∙ stands
 
     here : Stands doc (Apply site packet ∷ h) site new
-    here = record {
-      cut = λ o. cut o ∙ (λ i. more (λ x. before.cut x i) (origin packet) o) ∙ sym (grows o);
-      rows = rows ∙ ap (with_changes op.effects) before.rows ∙ sym (tables_brought doc h (Apply site packet) site (origin packet) op keeps.legal small grows next);
-    }
+    here = stands_brought doc h (Apply site packet) site (origin packet) op old new keeps.sound (apply, keeps.legal) before grows next cut clock rows fit
 
     there : (place : ℕ) (state : SiteState) → (place ≡ site - 1 → ⊥) → slice_get sites place ≡ Some state → Stands doc (Apply site packet ∷ h) (suc place) state
     there place state apart get =
-        let s : Stands doc h (suc place) state = keeps.sites_are place state get in
-        let rests : (x : ℕ) → cut_of (Apply site packet ∷ h) (suc place) x ≡ cut_of h (suc place) x = λ x. brings_none h (suc place) site (origin packet) x (λ is. apart (omega (arith, is))) in
-        record { cut = λ o. s.cut o ∙ sym (rests o); rows = s.rows ∙ sym (tables_rest doc h (Apply site packet) (suc place) keeps.legal rests) }
+        stands_rest doc h (Apply site packet) (suc place) state keeps.legal (keeps.sites_are place state get) (λ x. brings_none h (suc place) site (origin packet) x (λ is. apart (omega (arith, is))))
 
     state_of : (place : ℕ) (state : SiteState) → ((place ≡ site - 1) × (new ≡ state)) ⊎ ((place ≡ site - 1 → ⊥) × (slice_get sites place ≡ Some state)) → Stands doc (Apply site packet ∷ h) (suc place) state
     state_of place state (inl both) = subst (λ x. Stands doc (Apply site packet ∷ h) (suc place) x) both.1 (subst (λ s. Stands doc (Apply site packet ∷ h) s new) (sym (place_site site place one both.0)) here)

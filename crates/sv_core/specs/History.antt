@@ -2,13 +2,14 @@
 use Rattle.std.specs.Prelude.{ℕ, suc, ◌-◌, ◌==◌, ◌&&◌, if◌then◌else◌, Bool, true, false, List, [], ◌∷◌, ◌++◌, length, drop, Option, Some, None}
 use Rattle.sv_value.specs.Cuts.{origin}
 use Rattle.sv_app.specs.declared.requests.Request.{Request}
-use Rattle.sv_core.specs.Counters.{Tables}
+use Rattle.sv_effect.specs.declared.ops.Op.{Op}
+use Rattle.sv_effect.specs.StampedTables.{StampedTables}
+use Rattle.sv_effect.specs.Cut.{Cut, Medium, as_deps}
+use Rattle.sv_effect.specs.TablesOfCut.{tables_of}
 use Rattle.sv_core.specs.Document.{Document}
-use Rattle.sv_core.specs.declared.ops.Op.{Op}
 use Rattle.sv_core.specs.declared.entries.Entry.{Entry}
 use Rattle.sv_core.specs.declared.entries.Entry.TheVariants.{Answer, Apply}
-use Rattle.sv_core.specs.Cut.{Cut, Medium, as_deps}
-use Rattle.sv_core.specs.TablesOfCut.{tables_of}
+use Rattle.sv_core.specs.Clock.{latest_in}
 use Rattle.sv_core.specs.Run.{run_of}
 
 abbrev pub History : Type 0
@@ -29,13 +30,19 @@ cut_of (e ∷ h) s o = if brings e s o then suc (cut_of h s o) else cut_of h s o
 abbrev pub back_to : ℕ → History → History
 back_to at h = drop (length h - at) h
 
--- the operation of an answer: the changes of the run on the site's tables at the place `at`, and that cut as its deps.
--- The tables of an earlier cut are the same in the medium of now, since a cut counts from the front.
+-- the tables of what a site had at a place. They are the same in the medium of now, since a cut counts from the front.
+abbrev pub tables_then : Document → Medium → History → ℕ → ℕ → StampedTables
+tables_then doc m h site at = tables_of doc.schema doc.init m (cut_of (back_to at h) site)
+
+-- the operation of an answer: what the run on the site's tables at the place `at` changes and needs, that cut as its deps, and a time above
+-- those of all that the site has now
 abbrev pub op_of : Document → Medium → History → ℕ → ℕ → Request → Op
 op_of doc m h site at request = record {
+  time = suc (latest_in m (cut_of h site));
   site = site;
   deps = as_deps (cut_of (back_to at h) site);
-  effects = (run_of request (tables_of doc.init m (cut_of (back_to at h) site))).effects;
+  effects = (run_of request (tables_then doc m h site at)).effects;
+  needs = (run_of request (tables_then doc m h site at)).needs;
 }
 
 -- the operation that an entry publishes, with its origin
@@ -53,8 +60,8 @@ published doc [] o = []
 published doc (e ∷ h) o = with_news (news doc (published doc h) h e) (published doc h) o
 
 -- a site's tables
-abbrev pub tables_at : Document → History → ℕ → Tables
-tables_at doc h s = tables_of doc.init (published doc h) (cut_of h s)
+abbrev pub tables_at : Document → History → ℕ → StampedTables
+tables_at doc h s = tables_of doc.schema doc.init (published doc h) (cut_of h s)
 
 -- how many requests were answered, and how many of one session
 abbrev pub is_answer : Entry → Bool

@@ -5,9 +5,9 @@ use Rattle.sv_value.specs.declared.packets.Packet.{Packet}
 use Rattle.sv_value.specs.declared.packets.Packet.TheVariants.{Blue, Red}
 use Rattle.sv_value.specs.Cuts.{counts, Covers, origin, number}
 use Rattle.sv_app.specs.declared.requests.Request.{Request}
+use Rattle.sv_effect.specs.declared.ops.RowEffect.{RowEffect}
+use Rattle.sv_effect.specs.declared.ops.Op.{Op}
 use Rattle.sv_core.specs.Document.{Document}
-use Rattle.sv_core.specs.declared.ops.RowEffect.{RowEffect}
-use Rattle.sv_core.specs.declared.ops.Op.{Op}
 use Rattle.sv_core.specs.declared.entries.Reply.{Reply}
 use Rattle.sv_core.specs.declared.entries.Reply.TheVariants.{Ran}
 use Rattle.sv_core.specs.declared.entries.Entry.{Entry}

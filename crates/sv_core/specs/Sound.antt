@@ -1,9 +1,10 @@
--- A sound document: initial rows with distinct keys that fit the one table, 1 to 8 sites, and no more than the limits allow.
-use Rattle.std.specs.Prelude.{◌≡◌, ◌≤◌, ℤ, List, [], ◌∷◌, length, All, IsTrue}
+-- A sound document: one counter table, initial rows with distinct keys that fit it, 1 to 8 sites, and no more than the limits allow.
+use Rattle.std.specs.Prelude.{◌≡◌, ◌≤◌, ℤ, [], ◌∷◌, length, All, IsTrue}
 use Rattle.sv_value.specs.declared.values.Val.TheVariants.{Int}
 use Rattle.sv_app.specs.declared.requests.InitRow.{InitRow}
+use Rattle.sv_store.specs.Initial.{AreDistinct}
+use Rattle.sv_core.specs.CounterTable.{IsCounterSchema}
 use Rattle.sv_core.specs.Document.{Document}
-use Rattle.sv_core.specs.TablesOfCut.{init_place}
 use Rattle.sv_core.specs.Run.{fits64, key_of}
 
 -- a row of the one table: an integer key, which its first column repeats, and a counter within 64 bits
@@ -16,13 +17,8 @@ pub record IsInitRow (row : InitRow) : Type 0 where
   pub key_fits : IsTrue (fits64 key)
   pub count_fits : IsTrue (fits64 count)
 
--- no two initial rows stand at one place
-abbrev pub AreDistinct : List InitRow → Type 0
-AreDistinct [] = Unit {0}
-AreDistinct (row ∷ rows) = All (λ other. init_place row ≡ init_place other → ⊥) rows × AreDistinct rows
-
 pub record Sound (doc : Document) : Type 0 where
-  pub tables : doc.tables ≡ 1
+  pub schema : IsCounterSchema doc.schema
   pub txns : doc.txns ≤ 32
   pub rows : All IsInitRow doc.init
   pub few : length doc.init ≤ 1024

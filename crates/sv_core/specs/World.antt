@@ -5,16 +5,16 @@ use Rattle.sv_value.specs.declared.packets.Packet.{Packet}
 use Rattle.sv_value.specs.declared.packets.Packet.TheVariants.{Blue, Red}
 use Rattle.sv_value.specs.Cuts.{counts, origin, number}
 use Rattle.sv_app.specs.declared.requests.Request.{Request}
+use Rattle.sv_effect.specs.declared.ops.RowEffect.{RowEffect}
+use Rattle.sv_effect.specs.declared.ops.Op.{Op}
+use Rattle.sv_effect.specs.Cut.{Cut}
 use Rattle.sv_core.specs.Document.{Document}
-use Rattle.sv_core.specs.declared.ops.RowEffect.{RowEffect}
-use Rattle.sv_core.specs.declared.ops.Op.{Op}
 use Rattle.sv_core.specs.declared.runs.Ran.{Ran}
 use Rattle.sv_core.specs.declared.entries.Reply.TheVariants as reply
 use Rattle.sv_core.specs.declared.entries.Entry.{Entry}
 use Rattle.sv_core.specs.declared.entries.Entry.TheVariants.{Answer, Apply}
 use Rattle.sv_core.specs.declared.entries.Delivered.{Delivered}
 use Rattle.sv_core.specs.declared.entries.Delivered.TheVariants.{Applied, Duplicate, Early, Unknown}
-use Rattle.sv_core.specs.Cut.{Cut}
 use Rattle.sv_core.specs.Run.{run_of}
 use Rattle.sv_core.specs.History.{History, cut_of, published, tables_at, answered}
 use Rattle.sv_core.specs.Legal.{home}

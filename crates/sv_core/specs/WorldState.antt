@@ -3,8 +3,11 @@ use Rattle.std.specs.Prelude.{◌≡◌, ℕ, zero, suc, ◌*◌, ◌-◌, ◌�
 use Rattle.sv_value.specs.declared.packets.Packet.{Packet}
 use Rattle.sv_value.specs.declared.packets.Packet.TheVariants.{Blue, Red}
 use Rattle.sv_value.specs.Cuts.{counts}
-use Rattle.sv_core.specs.Counters.{Tables}
-use Rattle.sv_core.specs.declared.ops.Op.{Op}
+use Rattle.sv_app.specs.Schema.{Declaration}
+use Rattle.sv_effect.specs.declared.ops.Op.{Op}
+use Rattle.sv_effect.specs.StampedTables.{StampedTables}
+use Rattle.sv_effect.specs.Commutes.{TablesFit}
+use Rattle.sv_core.specs.Clock.{latest_in}
 use Rattle.sv_core.specs.declared.sites.SiteState.{SiteState}
 use Rattle.sv_core.specs.declared.entries.Entry.{Entry}
 use Rattle.sv_core.specs.declared.entries.Entry.TheVariants.{Answer, Apply}
@@ -19,10 +22,12 @@ listed lists (Blue zero seq) = []
 listed lists (Blue (suc place) seq) = get_or lists place []
 listed lists (Red slot) = []
 
--- a site's cut is that of the history, and its rows are the tables of its cut
+-- a site's cut is that of the history, its clock shows the greatest time in it, and its rows are the tables of its cut
 pub record Stands (doc : Document) (h : History) (site : ℕ) (state : SiteState) : Type 0 where
   pub cut : (o : ℕ) → counts state.cut o ≡ cut_of h site o
-  pub rows : state.rows ≡ tables_at doc h site
+  pub clock : state.clock ≡ latest_in (published doc h) (cut_of h site)
+  pub rows : state.store.tables ≡ tables_at doc h site
+  pub fit : TablesFit doc.schema state.store.tables
 
 -- the history is legal, and the lists of operations, the sites and the counts of answers are those of it;
 -- there is room for as many entries as the requests can bring
@@ -49,8 +54,14 @@ Publishes doc h k s op (Answer session index request site at reply (Some packet)
     (session ≡ k) × (site ≡ s) × (packet ≡ Blue s (length (published doc h s))) × (op ≡ op_of doc (published doc h) h site at request)
 Publishes doc h k s op (Apply site packet) = ⊥
 
--- so many sites that have nothing but these rows
-pub record AreFresh (count : ℕ) (rows : Tables) (sites : List SiteState) : Type 0 where
+-- a site that has nothing but these rows, which are of the schema
+pub record IsFresh (schema : List Declaration) (start : StampedTables) (state : SiteState) : Type 0 where
+  pub cut : (o : ℕ) → counts state.cut o ≡ 0
+  pub clock : state.clock ≡ 0
+  pub rows : state.store.tables ≡ start
+  pub fit : TablesFit schema state.store.tables
+
+-- so many of them
+pub record AreFresh (count : ℕ) (schema : List Declaration) (start : StampedTables) (sites : List SiteState) : Type 0 where
   pub long : length sites ≡ count
-  pub cuts : (place : ℕ) (state : SiteState) → slice_get sites place ≡ Some state → (o : ℕ) → counts state.cut o ≡ 0
-  pub all : (place : ℕ) (state : SiteState) → slice_get sites place ≡ Some state → state.rows ≡ rows
+  pub all : (place : ℕ) (state : SiteState) → slice_get sites place ≡ Some state → IsFresh schema start state

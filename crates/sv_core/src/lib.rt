@@ -4,7 +4,6 @@
 mod docs;
 mod entries;
 mod laws;
-mod ops;
 mod plain;
 mod plain_counts;
 mod plain_docs;
@@ -13,18 +12,18 @@ mod plain_tables;
 #[cfg(test)]
 mod plain_tests;
 mod readiness;
-mod rows;
 mod runs;
 mod sites;
 mod world;
 
 pub use docs::Doc;
 pub use entries::{Delivered, Entry, Outcome, Reply};
-pub use laws::{answers_by_causes, cuts_closed, equal_cuts, legal_by_places, one_more};
-pub use ops::{Op, RowEffect};
+pub use laws::{
+    answers_by_causes, any_sequence, cuts_closed, equal_cuts, legal_by_places, one_more,
+    published_merges,
+};
 pub use plain::{is_legal, tables_of_site};
 pub use plain_docs::is_sound;
 pub use plain_tables::tables_of_cut;
-pub use rows::{KeptRow, Rows};
-pub use runs::Ran;
+pub use runs::{Ran, counter_of};
 pub use world::World;

@@ -1,15 +1,17 @@
-ghost use Rattle.std.specs.Prelude.{◌≡◌, ◌↔◌, ◌≤◌, [], ◌∷◌, ℕ, List, map, length, reverse, IsTrue, IfOk, OnOk, IsSome, IfSome};
+ghost use Rattle.std.specs.Prelude.{◌≡◌, ◌↔◌, [], ◌∷◌, ℕ, List, map, length, reverse, IsTrue, IfOk, OnOk, IsSome, IfSome};
+ghost use Rattle.sv_store.specs.Stored.{tables_in};
 ghost use Rattle.sv_core.specs.Document.{document_of};
 ghost use Rattle.sv_core.specs.History.{with_news, tables_at};
+ghost use Rattle.sv_core.specs.Sound.{Sound};
 ghost use Rattle.sv_core.specs.Legal.{IsNext, Legal};
 ghost use Rattle.sv_core.specs.Plain.{medium_of, named_by_site, Told};
 
 use crate::docs::Doc;
 use crate::entries::Entry;
-use crate::ops::Op;
 use crate::plain_entries::Before;
-use crate::rows::Rows;
 use std::alloc::Global;
+use sv_effect::Op;
+use sv_store::KeptRow;
 use sv_value::{NoMemory, Site};
 
 /// The lists of eight sites that published nothing.
@@ -68,8 +70,7 @@ fn step(
 
 /// What a legal history, oldest entry first, published: the list of each of eight sites; `None` where it isn't legal.
 fn lists_of(alloc: Global, doc: &Doc, history: &[Entry]) -> Result<Option<Vec<Vec<Op>>>, NoMemory>
-    requires some { 1 ≤ doc.now.sites }
-    requires few { doc.now.sites ≤ 8 }
+    requires { Sound (document_of doc.now) }
     ensures legal { IfOk result (λ lists. IsSome lists ↔ Legal (document_of doc.now) (reverse history.now)) }
     ensures told { IfOk result (λ lists. IfSome lists (λ lists. Told (document_of doc.now) (reverse history.now) (map (λ ops. ops.items) lists.items))) }
 {
@@ -82,11 +83,10 @@ fn lists_of(alloc: Global, doc: &Doc, history: &[Entry]) -> Result<Option<Vec<Ve
     Ok(Some(published))
 }
 
-/// Whether the history, oldest entry first, is legal for the document: each entry is tested against the tables that the
+/// Whether the history, oldest entry first, is legal for the sound document: each entry is tested against the tables that the
 /// entries before it give, computed anew from all their operations.
 pub fn is_legal(alloc: Global, doc: &Doc, history: &[Entry]) -> Result<bool, NoMemory>
-    requires some { 1 ≤ doc.now.sites }
-    requires few { doc.now.sites ≤ 8 }
+    requires { Sound (document_of doc.now) }
     ensures { IfOk result (λ yes. IsTrue yes ↔ Legal (document_of doc.now) (reverse history.now)) }
 {
     let lists = lists_of(alloc, doc, history)?;
@@ -100,11 +100,10 @@ pub fn tables_of_site(
     doc: &Doc,
     history: &[Entry],
     site: Site,
-) -> Result<Option<Rows>, NoMemory>
-    requires some { 1 ≤ doc.now.sites }
-    requires few { doc.now.sites ≤ 8 }
+) -> Result<Option<Vec<KeptRow>>, NoMemory>
+    requires { Sound (document_of doc.now) }
     ensures legal { IfOk result (λ rows. IsSome rows ↔ Legal (document_of doc.now) (reverse history.now)) }
-    ensures tables { IfOk result (λ rows. IfSome rows (λ rows. rows ≡ tables_at (document_of doc.now) (reverse history.now) site)) }
+    ensures tables { IfOk result (λ rows. IfSome rows (λ rows. tables_in rows.items ≡ tables_at (document_of doc.now) (reverse history.now) site)) }
 {
     let lists = lists_of(alloc, doc, history)?;
     match lists {

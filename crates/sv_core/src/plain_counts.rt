@@ -1,10 +1,13 @@
-ghost use Rattle.std.specs.Prelude.{◌≡◌, ◌≤◌, ℕ, reverse};
+ghost use Rattle.std.specs.Prelude.{◌≡◌, ◌≤◌, ℕ, map, reverse};
 ghost use Rattle.sv_value.specs.Cuts.{counts};
+ghost use Rattle.sv_core.specs.Clock.{latest_of, latest_in};
 ghost use Rattle.sv_core.specs.History.{cut_of, is_answer, is_answer_of, answers, answered};
-ghost use Rattle.sv_core.specs.Plain.{with_entry};
+ghost use Rattle.sv_core.specs.Plain.{with_entry, medium_of};
 
 use crate::entries::Entry;
+use crate::plain_tables::held;
 use crate::sites::add;
+use sv_effect::Op;
 use sv_value::{Cut, Site};
 
 fn is_answer(entry: &Entry) -> bool
@@ -71,4 +74,26 @@ pub fn cut_of(history: &[Entry], site: Site) -> Cut
         count_entry(&mut cut, entry, site);
     }
     cut
+}
+
+/// The greatest time of these operations.
+fn latest_of(ops: &[Op]) -> u64
+    ensures { result ≡ latest_of ops.now }
+{
+    let mut latest = 0;
+    for op in ops {
+        latest = op.time.max(latest);
+    }
+    latest
+}
+
+/// The greatest time of the operations that the cut has of these lists of the sites, site 1 first.
+pub fn latest_in(published: &[Vec<Op>], cut: &Cut) -> u64
+    ensures { result ≡ latest_in (medium_of (map (λ ops. ops.items) published.now)) (counts cut.now) }
+{
+    let mut latest = 0;
+    for place in 0..8usize {
+        latest = latest_of(held(published, place, cut.blue[place])).max(latest);
+    }
+    latest
 }

@@ -1,18 +1,70 @@
-ghost use Rattle.std.specs.Prelude.{◌≡◌, ◌↔◌, All, IsTrue};
+ghost use Rattle.std.specs.Prelude.{◌≡◌, ◌↔◌, All, IsTrue, map};
+ghost use Rattle.sv_app.specs.Schema.{declaration_of, schema_of};
+ghost use Rattle.sv_effect.specs.TablesOfCut.{init_place};
+ghost use Rattle.sv_store.specs.Initial.{AreDistinct};
+ghost use Rattle.sv_core.specs.CounterTable.{AreCounterColumns, IsKeyName, HasCounterColumns, IsCounterTable, IsCounterSchema};
 ghost use Rattle.sv_core.specs.Document.{document_of};
 ghost use Rattle.sv_core.specs.Plain.{integers};
 ghost use Rattle.sv_core.specs.Run.{key_of};
-ghost use Rattle.sv_core.specs.Sound.{Sound, IsInitRow, AreDistinct};
-ghost use Rattle.sv_core.specs.TablesOfCut.{init_place};
+ghost use Rattle.sv_core.specs.Sound.{Sound, IsInitRow};
 
 use crate::docs::Doc;
 use crate::plain_tables::init_place;
 use crate::runs::fits64;
-use sv_app::InitRow;
+use sv_app::{Column, Ident, InitRow, Kind, Merge, Table, Ty};
 use sv_value::{Key, Val};
 
+/// Whether the columns are those of a counter table, in order.
+fn are_counter_columns(key: &Column, counter: &Column) -> bool
+    ensures { IsTrue result ↔ AreCounterColumns key.now counter.now }
+{
+    key.ty == Ty::Int
+        && key.merge == Merge::Plain
+        && key.name.num == 0
+        && counter.ty == Ty::Int
+        && counter.merge == Merge::NumDelta
+        && counter.name.num == 1
+        && key.name.name != counter.name.name
+}
+
+/// Whether the name is that of the key column.
+fn is_key_name(key: &Column, name: &Ident) -> bool
+    ensures { IsTrue result ↔ IsKeyName key.now name.now }
+{
+    name.name == key.name.name && name.num == 0
+}
+
+fn has_counter_columns(columns: &[Column], names: &[Ident]) -> bool
+    ensures { IsTrue result ↔ HasCounterColumns columns.now names.now }
+{
+    match (columns, names) {
+        ([key, counter], [name]) => are_counter_columns(key, counter) && is_key_name(key, name),
+        _ => false,
+    }
+}
+
+fn is_counter_table(table: &Table) -> bool
+    ensures { IsTrue result ↔ IsCounterTable (declaration_of table.now) }
+{
+    table.name.num == 0
+        && table.kind == Kind::Uoset
+        && has_counter_columns(table.columns.as_slice(), table.key.as_slice())
+        && table.second_key.is_none()
+        && table.invs.is_empty()
+}
+
+/// Whether the tables are one counter table.
+fn is_counter_schema(tables: &[Table]) -> bool
+    ensures { IsTrue result ↔ IsCounterSchema (schema_of tables.now) }
+{
+    match tables {
+        [table] => is_counter_table(table),
+        _ => false,
+    }
+}
+
 /// The values of a row that are a key and a counter.
-fn integers(values: &[Val]) -> Option<(i64, i64)>
+pub(crate) fn integers(values: &[Val]) -> Option<(i64, i64)>
     ensures { result ≡ integers values.now }
 {
     match values {
@@ -75,13 +127,13 @@ fn are_distinct(init: &[InitRow]) -> bool
     }
 }
 
-/// Whether the document is sound: its initial rows have distinct keys and fit the one table, it has 1 to 8 sites, and
-/// its numbers keep the limits.
+/// Whether the document is sound: it has one counter table, its initial rows have distinct keys and fit the table, it
+/// has 1 to 8 sites, and its numbers keep the limits.
 pub fn is_sound(doc: &Doc) -> bool
     ensures { IsTrue result ↔ Sound (document_of doc.now) }
 {
     let init = doc.init.items();
-    doc.app.tables.len() == 1
+    is_counter_schema(doc.app.tables.as_slice())
         && doc.app.txns.len() <= 32
         && init.len() <= 1024
         && are_init_rows(init)

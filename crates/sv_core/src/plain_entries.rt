@@ -1,18 +1,20 @@
 ghost use Rattle.std.specs.Prelude.{◌≡◌, ◌↔◌, ◌≤◌, ℕ, List, map, length, reverse, IsTrue, IfOk};
+ghost use Rattle.sv_store.specs.Stored.{tables_in};
 ghost use Rattle.sv_core.specs.Document.{document_of};
+ghost use Rattle.sv_core.specs.Run.{run_of};
 ghost use Rattle.sv_core.specs.Legal.{FitsDoc};
 ghost use Rattle.sv_value.specs.Cuts.{counts};
 
 use crate::docs::Doc;
 use crate::entries::{Entry, Reply};
-use crate::ops::{Op, RowEffect};
-use crate::plain_counts::{answered, answers, cut_of};
-use crate::plain_tables::tables_of_cut;
+use crate::plain_counts::{answered, answers, cut_of, latest_in};
+use crate::plain_tables::{row_in, tables_of_cut};
 use crate::readiness::{blue_list, list_of, number};
-use crate::rows::Rows;
-use crate::runs::{Ran, first_arg, fits64, run, second_arg};
+use crate::runs::{Ran, first_arg, fits64, place_asked, run_at, run_nowhere, second_arg};
 use std::alloc::Global;
 use sv_app::Request;
+use sv_effect::{Op, RowEffect};
+use sv_store::KeptRow;
 use sv_value::{Cut, NoMemory, Packet, Site};
 
 /// A legal history, oldest entry first, and the lists of the sites' operations that it published, site 1 first.
@@ -34,8 +36,17 @@ pub fn fits(doc: &Doc, request: &Request) -> bool
         && fits64(&(second_arg(args) as i128))
 }
 
+/// Runs a request on these rows.
+fn run_on(alloc: Global, request: &Request, rows: &[KeptRow]) -> Result<Ran, NoMemory>
+    ensures { IfOk result (λ ran. ran ≡ run_of request.now (tables_in rows.now)) }
+{
+    match row_in(rows, &place_asked(request)) {
+        Some(row) => run_at(alloc, request, row),
+        None => Ok(run_nowhere(alloc, request)),
+    }
+}
+
 impl Before<'_> {
-    ghost use Rattle.sv_core.specs.Run.{run_of};
     ghost use Rattle.sv_core.specs.History.{cut_of, op_of, news, published, tables_at};
     ghost use Rattle.sv_core.specs.Legal.{home, IsPacket, IsApply, IsNext};
     ghost use Rattle.sv_core.specs.Plain.{named_by_site, IsAsked, IsPlaced, IsJudged};
@@ -50,16 +61,11 @@ impl Before<'_> {
     }
 
     /// The site's tables.
-    pub fn tables(&self, alloc: Global, site: Site) -> Result<Rows, NoMemory>
+    pub fn tables(&self, alloc: Global, site: Site) -> Result<Vec<KeptRow>, NoMemory>
         requires { IsTold self.now }
-        ensures { IfOk result (λ rows. rows ≡ tables_at (doc_of self.now) (past_of self.now) site) }
+        ensures { IfOk result (λ rows. tables_in rows.items ≡ tables_at (doc_of self.now) (past_of self.now) site) }
     {
-        tables_of_cut(
-            alloc,
-            self.doc.init.items(),
-            self.published,
-            &self.cut(site),
-        )
+        tables_of_cut(alloc, self.doc, self.published, &self.cut(site))
     }
 
     /// The run of a request on the site's tables.
@@ -68,7 +74,7 @@ impl Before<'_> {
         ensures { IfOk result (λ ran. ran ≡ run_of request.now (tables_at (doc_of self.now) (past_of self.now) site)) }
     {
         let tables = self.tables(alloc, site)?;
-        run(alloc, request, &tables)
+        run_on(alloc, request, &tables)
     }
 
     /// Whether the session may ask the request now.
@@ -182,11 +188,15 @@ impl Before<'_> {
         let Ran {
             outcome: _,
             effects,
+            needs,
         } = self.ran(alloc, site, request)?;
+        let deps = self.cut(site);
         Ok(Op {
+            time: latest_in(self.published, &deps) + 1,
             site,
-            deps: self.cut(site),
+            deps,
             effects,
+            needs,
         })
     }
 

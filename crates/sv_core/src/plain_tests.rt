@@ -2,6 +2,7 @@
 //! tables of its cut, and histories that were damaged are not legal.
 ghost use Rattle.std.specs.Prelude.{◌≡◌, ◌≤◌, IfOk, OnOk};
 ghost use Rattle.sv_core.specs.Document.{document_of};
+ghost use Rattle.sv_core.specs.Sound.{Sound};
 
 use crate::docs::Doc;
 use crate::entries::{Delivered, Entry, Outcome, Reply};
@@ -9,14 +10,15 @@ use crate::plain::{is_legal, tables_of_site};
 use crate::plain_counts::answers;
 use crate::plain_docs::is_sound;
 use crate::plain_entries::fits;
-use crate::rows::KeptRow;
 use crate::world::World;
 use std::alloc::Global;
 use std::process::Abort;
 use std::sync::Arc;
 use std::test::Fail;
-use sv_app::{App, Arg, Ident, InitRow, Kind, Request, Table, Txn};
-use sv_value::{Key, List, Name, Packet, Site, Spot, Val};
+use sv_app::{App, Arg, Column, Ident, InitRow, Kind, Merge, Request, Table, Txn, Ty};
+use sv_effect::Cell;
+use sv_store::KeptRow;
+use sv_value::{Key, List, Name, Packet, Site, Spot, Stamp, Val};
 
 const HERE: Spot = Spot { line: 1, col: 1 };
 
@@ -44,11 +46,19 @@ fn key(number: i64) -> Key {
     }
 }
 
-fn ident(bytes: &[u8]) -> Result<Ident, Fail> {
+fn ident(bytes: &[u8], num: u16) -> Result<Ident, Fail> {
     Ok(Ident {
         name: Name::new(bytes).ok_or("no name")?,
         spot: HERE,
-        num: 0,
+        num,
+    })
+}
+
+fn column(bytes: &[u8], num: u16, merge: Merge) -> Result<Column, Fail> {
+    Ok(Column {
+        name: ident(bytes, num)?,
+        ty: Ty::Int,
+        merge,
     })
 }
 
@@ -64,19 +74,29 @@ fn row(alloc: Global, number: i64, count: i64) -> Result<InitRow, Fail> {
     })
 }
 
-fn app(alloc: Global) -> Result<App, Fail> {
-    let mut tables = Vec::new(alloc);
-    tables.push(Table {
-        name: ident(b"acc")?,
+/// A counter table.
+fn table(alloc: Global) -> Result<Table, Fail> {
+    let mut columns = Vec::new(alloc);
+    columns.push(column(b"id", 0, Merge::Plain)?)?;
+    columns.push(column(b"n", 1, Merge::NumDelta)?)?;
+    let mut key = Vec::new(alloc);
+    key.push(ident(b"id", 0)?)?;
+    Ok(Table {
+        name: ident(b"acc", 0)?,
         kind: Kind::Uoset,
-        columns: Vec::new(alloc),
-        key: Vec::new(alloc),
+        columns,
+        key,
         second_key: None,
         invs: Vec::new(alloc),
-    })?;
+    })
+}
+
+fn app(alloc: Global) -> Result<App, Fail> {
+    let mut tables = Vec::new(alloc);
+    tables.push(table(alloc)?)?;
     let mut txns = Vec::new(alloc);
     txns.push(Txn {
-        name: ident(b"add")?,
+        name: ident(b"add", 0)?,
         params: Vec::new(alloc),
         body: Vec::new(alloc),
     })?;
@@ -175,16 +195,39 @@ fn named_packet(packet: &Option<Packet>) -> Option<(u8, u32)> {
     }
 }
 
-fn are_rows(rows: &[KeptRow], wanted: &[KeptRow]) -> bool {
-    rows.len() == wanted.len()
-        && rows.iter().zip(wanted).all(|(row, other)| row.place == other.place
-            && row.count == other.count)
+/// Whether two rows are the same.
+fn is_row(row: &KeptRow, other: &KeptRow) -> bool {
+    row.place == other.place
+        && row.row.cells.as_slice() == other.row.cells.as_slice()
+        && row.row.mark == other.row.mark
+        && row.row.stamp == other.row.stamp
+}
+
+/// Whether each of the rows is one of the others, and these are as many.
+fn are_rows(rows: &[KeptRow], others: &[KeptRow]) -> bool {
+    rows.len() == others.len()
+        && rows
+            .iter()
+            .all(|row| others.iter().any(|other| is_row(row, other)))
+}
+
+/// The row of this key and count, to which nothing else was done.
+fn is_counter(row: &KeptRow, number: i64, count: i128) -> bool {
+    row.place.key == key(number)
+        && row.row.cells.as_slice()
+            == [Cell::Plain(Val::Int(number)), Cell::Count(count)].as_slice()
+        && row.row.mark
+        && row.row.stamp
+            == Stamp {
+                time: 0,
+                site: 0,
+                place: 0,
+            }
 }
 
 /// Whether the row of this key has the count.
 fn is_count(rows: &[KeptRow], number: i64, count: i128) -> bool {
-    rows.iter()
-        .any(|row| row.place.key == key(number) && row.count == count)
+    rows.iter().any(|row| is_counter(row, number, count))
 }
 
 /// Sees that at each of these sites the row of the key has the count.
@@ -209,8 +252,7 @@ fn see_counts(
 
 /// Compares the world with the plain program.
 fn compare(rt: &impl Abort, alloc: Global, doc: &Doc, world: &World) -> Result<(), Fail>
-    requires some { 1 ≤ doc.now.sites }
-    requires few { doc.now.sites ≤ 8 }
+    requires sound { Sound (document_of doc.now) }
     requires same { world.now.doc ≡ document_of doc.now }
 {
     let history = world.history();
@@ -219,7 +261,7 @@ fn compare(rt: &impl Abort, alloc: Global, doc: &Doc, world: &World) -> Result<(
         let site = Site::new(number).ok_or("no site")?;
         let tables = tables_of_site(alloc, doc, history, site)?.ok_or("not legal")?;
         assert!(rt;
-            are_rows(world.rows(site), tables.kept()),
+            are_rows(world.rows(site), &tables),
             "site {number} after {history:?}"
         );
     }
@@ -240,7 +282,7 @@ fn take_all(
     for step in steps {
         step.take(rt, alloc, doc, world)?;
     }
-    assert!(rt; 1 <= doc.sites && doc.sites <= 8);
+    assert!(rt; is_sound(doc));
     compare(rt, alloc, doc, world)
 }
 
@@ -471,7 +513,7 @@ fn damaged_histories_are_not_legal(rt: HostRuntime) -> Result<(), Fail> {
         Step::Deliver(3, (2, 0), Said::Applied),
     ];
     take_all(&rt, alloc, &doc, &mut world, &deliveries)?;
-    assert!(rt; 1 <= doc.sites && doc.sites <= 8);
+    assert!(rt; is_sound(&doc));
     for (place, damage, legal) in [
         (0, Damage::None, true),
         // the last entry may be missing

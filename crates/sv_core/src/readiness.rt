@@ -4,7 +4,7 @@ ghost use Rattle.sv_core.specs.World.{first_missing, packet_at, judged_op};
 ghost use Rattle.sv_core.specs.WorldState.{listed};
 
 use crate::entries::Delivered;
-use crate::ops::Op;
+use sv_effect::Op;
 use sv_value::{Cut, Packet, Site};
 
 /// The blue packet of this number of the site at this place.

@@ -1,17 +1,21 @@
-ghost use Rattle.std.specs.Prelude.{◌≡◌, ◌+◌, ◌<◌, ◌∷◌, ◌++◌, [], ℕ, OnOk, OnErr};
+ghost use Rattle.std.specs.Prelude.{◌≡◌, ◌+◌, ◌<◌, ◌∷◌, ◌++◌, [], ℕ, max, OnOk, OnErr};
 ghost use Rattle.sv_value.specs.Cuts.{counts, more, origin};
-ghost use Rattle.sv_core.specs.Applied.{with_changes};
-ghost use Rattle.sv_core.specs.Rows.{CanTake};
+ghost use Rattle.sv_app.specs.Schema.{schema_of};
+ghost use Rattle.sv_effect.specs.Applied.{applied};
+ghost use Rattle.sv_effect.specs.Commutes.{TablesFit};
+ghost use Rattle.sv_core.specs.Takes.{CanTake};
 
-use crate::ops::{Op, RowEffect};
-use crate::rows::Rows;
+use sv_app::App;
+use sv_effect::Op;
+use sv_store::ListStore;
 use sv_value::{Cut, NoMemory, Packet};
 
-/// What one site has: its cut, and the rows that the operations of the cut give.
+/// What one site has: its cut, the greatest time of the operations of the cut, and the rows that they give.
 #[derive(Debug, Drop)]
 pub struct SiteState {
     pub cut: Cut,
-    pub rows: Rows,
+    pub clock: u64,
+    pub store: ListStore,
 }
 
 pub(crate) fn add(cut: &mut Cut, packet: &Packet)
@@ -25,34 +29,40 @@ pub(crate) fn add(cut: &mut Cut, packet: &Packet)
 }
 
 impl SiteState {
-    /// Brings the site the operation of a packet, which makes these changes.
-    pub fn bring(&mut self, packet: &Packet, effects: &[RowEffect])
+    /// Brings the site an operation, whose packet this is.
+    pub fn bring(&mut self, app: &App, packet: &Packet, op: &Op)
         requires room { counts self.old.cut (origin packet.now) < 4294967295 }
-        requires rows { CanTake self.old.rows effects.now }
+        requires store { CanTake (schema_of app.now.tables.items) op.now self.old.store }
         ensures cut { (o : ℕ) → counts self.new.cut o ≡ more (counts self.old.cut) (origin packet.now) o }
-        ensures rows { self.new.rows ≡ with_changes effects.now self.old.rows }
+        ensures clock { self.new.clock ≡ max self.old.clock op.now.time }
+        ensures tables { self.new.store.tables ≡ applied (schema_of app.now.tables.items) op.now self.old.store.tables }
+        ensures kept { TablesFit (schema_of app.now.tables.items) self.new.store.tables }
     {
         add(&mut self.cut, packet);
-        self.rows.apply(effects);
+        self.clock = self.clock.max(op.time);
+        self.store.apply(app, op);
     }
 
     /// Publishes an operation of the site under the packet, and brings it to the site itself.
     pub fn publish(
         &mut self,
+        app: &App,
         published: &mut Vec<Op>,
         packet: &Packet,
         op: Op,
     ) -> Result<(), NoMemory>
         requires room { counts self.old.cut (origin packet.now) < 4294967295 }
-        requires rows { CanTake self.old.rows op.effects }
+        requires store { CanTake (schema_of app.now.tables.items) op self.old.store }
         ensures cut { OnOk result ((o : ℕ) → counts self.new.cut o ≡ more (counts self.old.cut) (origin packet.now) o) }
-        ensures rows { OnOk result (self.new.rows ≡ with_changes op.effects self.old.rows) }
+        ensures clock { OnOk result (self.new.clock ≡ max self.old.clock op.time) }
+        ensures tables { OnOk result (self.new.store.tables ≡ applied (schema_of app.now.tables.items) op self.old.store.tables) }
+        ensures kept { OnOk result (TablesFit (schema_of app.now.tables.items) self.new.store.tables) }
         ensures published { OnOk result (published.new.items ≡ published.old.items ++ op ∷ []) }
         ensures state { OnErr result (self.new ≡ self.old) }
         ensures stays { OnErr result (published.new.items ≡ published.old.items) }
     {
         published.reserve(1)?;
-        self.bring(packet, op.effects.items());
+        self.bring(app, packet, &op);
         match published.push(op) {
             Ok(()) => Ok(()),
             Err(_) => unreachable!(),

@@ -1,19 +1,23 @@
-ghost use Rattle.std.specs.Prelude.{◌≡◌, ◌+◌, ◌<◌, ◌≤◌, [], ◌∷◌, ℕ, map, length, replicate, reverse, IfOk, OnOk, OnErr};
+ghost use Rattle.std.specs.Prelude.{◌≡◌, ◌+◌, ◌<◌, ◌≤◌, [], ◌∷◌, ℕ, suc, map, length, replicate, reverse, IfOk, OnOk, OnErr};
 ghost use Rattle.std.specs.FinMap.{entries};
 ghost use Rattle.sv_value.specs.Cuts.{counts};
+ghost use Rattle.sv_app.specs.Schema.{schema_of};
+ghost use Rattle.sv_effect.specs.Cut.{empty};
+ghost use Rattle.sv_effect.specs.TablesOfCut.{tables_held};
+ghost use Rattle.sv_core.specs.Takes.{CanStart};
 ghost use Rattle.sv_core.specs.WorldState.{AreFresh};
 
 use crate::docs::Doc;
 use crate::entries::{Delivered, Entry, Outcome, Reply};
-use crate::ops::{Op, RowEffect};
 use crate::readiness::{judge, list_of, number};
-use crate::rows::{KeptRow, Rows};
 use crate::runs::{Ran, run};
 use crate::sites::SiteState;
 use std::alloc::Global;
 use std::marker::Model;
 use std::sync::Arc;
-use sv_app::Request;
+use sv_app::{App, InitRow, Request};
+use sv_effect::{Need, Op, RowEffect};
+use sv_store::{KeptRow, ListStore};
 use sv_value::{Cut, List, NoMemory, Packet, Site};
 
 /// The sites of a document, what they published, and all that happened to them. Contracts see its document and its
@@ -52,15 +56,22 @@ fn empty_lists(alloc: Global, count: u8) -> Result<Vec<Vec<Op>>, NoMemory>
     Ok(lists)
 }
 
-/// So many sites that have these rows, and nothing else.
-fn fresh_sites(alloc: Global, count: u8, rows: &Rows) -> Result<Vec<SiteState>, NoMemory>
-    ensures { IfOk result (λ sites. AreFresh count rows.now sites.items) }
+/// So many sites that have the initial rows, and nothing else.
+fn fresh_sites(
+    alloc: Global,
+    count: u8,
+    app: &App,
+    init: &[InitRow],
+) -> Result<Vec<SiteState>, NoMemory>
+    requires { CanStart (schema_of app.now.tables.items) init.now }
+    ensures { IfOk result (λ sites. AreFresh count (schema_of app.now.tables.items) (tables_held (schema_of app.now.tables.items) init.now empty) sites.items) }
 {
     let mut sites = Vec::new(alloc);
     for _ in 0..count {
         sites.push(SiteState {
             cut: Cut::empty(),
-            rows: rows.copied(alloc)?,
+            clock: 0,
+            store: ListStore::start(alloc, app, init, 0)?,
         })?;
     }
     Ok(sites)
@@ -70,11 +81,12 @@ impl World {
     ghost use Rattle.sv_core.specs.Document.{document_of};
     ghost use Rattle.sv_core.specs.Sound.{Sound};
     ghost use Rattle.sv_core.specs.History.{cut_of, published, answered, tables_at, answers};
-    ghost use Rattle.sv_core.specs.Cut.{as_deps};
+    ghost use Rattle.sv_effect.specs.Cut.{as_deps};
+    ghost use Rattle.sv_core.specs.Clock.{latest_in};
     ghost use Rattle.sv_core.specs.Run.{run_of};
     ghost use Rattle.sv_core.specs.Legal.{Legal, IsNext, FitsDoc, home};
     ghost use Rattle.sv_core.specs.WorldState.{IsReply, Publishes};
-    ghost use Rattle.sv_core.specs.Rows.{entry_of};
+    ghost use Rattle.sv_store.specs.Stored.{entry_of};
     ghost use Rattle.sv_core.specs.World.{answer_due, delivered, after_delivery};
 
     /// The world of a sound document, to which nothing has happened. Takes all the space that deliveries will need.
@@ -82,10 +94,9 @@ impl World {
         requires { Sound (document_of doc.value) }
         ensures { IfOk result (λ world. world ≡ record { doc = document_of doc.value; history = [] }) }
     {
-        let rows = Rows::start(alloc, doc.init.items())?;
         let history = Vec::with_capacity(alloc, 9 * doc.asks as usize)?;
         let published = empty_lists(alloc, doc.sites)?;
-        let sites = fresh_sites(alloc, doc.sites, &rows)?;
+        let sites = fresh_sites(alloc, doc.sites, &doc.app, doc.init.items())?;
         Ok(World {
             doc,
             history,
@@ -125,7 +136,7 @@ impl World {
         requires { site ≤ self.now.doc.sites }
         ensures { map entry_of result.now ≡ entries (tables_at self.now.doc self.now.history site) }
     {
-        self.sites[site.number() as usize - 1].rows.kept()
+        self.sites[site.number() as usize - 1].store.kept()
     }
 
     /// Where the session lives.
@@ -152,13 +163,17 @@ impl World {
         ensures err { OnErr result (self.new ≡ self.old) }
     {
         let site = self.home(session);
-        let Ran { outcome, effects } = self.ran(alloc, site, &request)?;
+        let Ran {
+            outcome,
+            effects,
+            needs,
+        } = self.ran(alloc, site, &request)?;
         if effects.is_empty() {
             let entry = self.answer(session, site, request, outcome, None);
             return Ok(self.reply(session, entry));
         }
         let packet = self.next_packet(site);
-        let op = self.next_op(site, effects);
+        let op = self.next_op(site, effects, needs);
         let entry = self.answer(session, site, request, outcome, Some(packet));
         self.publish(session, site, entry, op)
     }
@@ -208,7 +223,7 @@ impl World {
         }) {
             Ok(()) => {
                 let op = &list_of(&self.published, packet)[number(packet)];
-                self.sites[place].bring(packet, op.effects.items());
+                self.sites[place].bring(&self.doc.app, packet, op);
             }
             Err(_) => unreachable!(),
         }
@@ -218,7 +233,11 @@ impl World {
         requires { site ≤ self.now.doc.sites }
         ensures { IfOk result (λ ran. ran ≡ run_of request.now (tables_at self.now.doc self.now.history site)) }
     {
-        run(alloc, request, &self.sites[site.number() as usize - 1].rows)
+        run(
+            alloc,
+            request,
+            &self.sites[site.number() as usize - 1].store,
+        )
     }
 
     /// The name of the site's next operation.
@@ -232,15 +251,26 @@ impl World {
         }
     }
 
-    /// The operation that makes these changes on what the site has.
-    fn next_op(&self, site: Site, effects: List<RowEffect>) -> Op
+    /// The greatest time of the operations that the site has.
+    fn clock(&self, site: Site) -> u64
         requires { site ≤ self.now.doc.sites }
-        ensures { result ≡ record { site = site; deps = as_deps (cut_of self.now.history site); effects = effects } }
+        ensures latest { result ≡ latest_in (published self.now.doc self.now.history) (cut_of self.now.history site) }
+        ensures small { result < 4294967295 }
+    {
+        self.sites[site.number() as usize - 1].clock
+    }
+
+    /// The operation that makes these changes on what the site has, and has these needs.
+    fn next_op(&self, site: Site, effects: List<RowEffect>, needs: List<Need>) -> Op
+        requires { site ≤ self.now.doc.sites }
+        ensures { result ≡ record { time = suc (latest_in (published self.now.doc self.now.history) (cut_of self.now.history site)); site = site; deps = as_deps (cut_of self.now.history site); effects = effects; needs = needs } }
     {
         Op {
+            time: self.clock(site) + 1,
             site,
             deps: self.cut(site),
             effects,
+            needs,
         }
     }
 
@@ -301,7 +331,7 @@ impl World {
         let place = site.number() as usize - 1;
         let at = self.history.len() as u32;
         let packet = self.next_packet(site);
-        self.sites[place].publish(&mut self.published[place], &packet, op)?;
+        self.sites[place].publish(&self.doc.app, &mut self.published[place], &packet, op)?;
         match self.history.push(entry) {
             Ok(()) => {
                 self.answered[session as usize - 1] += 1;

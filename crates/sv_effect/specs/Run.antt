@@ -94,8 +94,8 @@ fetched r st row = Goes (with_scope st (with_row r row.values st.scope))
 -- the 65th change isn't made
 abbrev pub changed : Effect → Row → Stand → Flow
 changed e row st = if nat_lt (length st.effects) 64
-  then Goes (record st { tables = insert st.tables e.place row; effects = st.effects ++ e ∷ [] })
-  else Ends outcomes.TooLarge
+    then Goes (record st { tables = insert st.tables e.place row; effects = st.effects ++ e ∷ [] })
+    else Ends outcomes.TooLarge
 
 abbrev pub row_with : List Got → Bool → Row
 row_with values present = record { values = values; present = present }
@@ -106,13 +106,13 @@ updating values s = record s { old = values; progress = record s.progress { know
 
 abbrev pub updated : Declaration → Place → List (Ident × Term) → Stand → Row → Flow
 updated table p sets st row = on_value (sets_made table.columns sets (updating row.values st.scope)) st (λ ws z.
-  let writes = in_order table 0 table.columns ws in
-  changed (record { place = p; act = acts.Update; writes = writes; instance = z.scope.progress.number }) (row_with (with_writes writes row.values) true) z)
+    let writes = in_order table 0 table.columns ws in
+    changed (record { place = p; act = acts.Update; writes = writes; instance = z.scope.progress.number }) (row_with (with_writes writes row.values) true) z)
 
 abbrev pub inserted : Declaration → Place → List Val → Option Row → Stand → Flow
 inserted table p vs row st = if stands row then Ends outcomes.Exists else
-  on_value (inserts table vs (kept_values table p.key row) 0 table.columns st.scope) st (λ writes z.
-  changed (record { place = p; act = acts.Insert; writes = writes; instance = z.scope.progress.number }) (row_with (with_writes writes (kept_values table p.key row)) true) z)
+    on_value (inserts table vs (kept_values table p.key row) 0 table.columns st.scope) st (λ writes z.
+    changed (record { place = p; act = acts.Insert; writes = writes; instance = z.scope.progress.number }) (row_with (with_writes writes (kept_values table p.key row)) true) z)
 
 abbrev pub removed : Place → Stand → Row → Flow
 removed p st row = changed (record { place = p; act = acts.Remove; writes = []; instance = st.scope.progress.number }) (row_with row.values false) st
@@ -146,9 +146,14 @@ abbrev pub meeting : ℕ → ℕ → Option Test → Tables → List Key → Sco
 meeting r table None t ks s = Gives ks s
 meeting r table (Some test) t ks s = meeting_test r table test t ks s
 
-abbrev pub on_keys : Evaluated (List Key) → (List Key → Flow) → Flow
-on_keys Leaves go = Ends outcomes.Range
-on_keys (Gives ks s) go = go ks
+-- what evaluation gives, without its scope
+abbrev pub only : {A : Type 0} → Evaluated A → Option A
+only Leaves = None
+only (Gives x s) = Some x
+
+abbrev pub on_keys : Option (List Key) → (List Key → Flow) → Flow
+on_keys None go = Ends outcomes.Range
+on_keys (Some ks) go = go ks
 
 -- one turn for each item
 abbrev pub turns : {A : Type 0} → List A → (A → Stand → Flow) → Stand → Flow
@@ -196,7 +201,7 @@ abbrev mutual
   run_command g (Assign x e) st = on_value (value_of e st.scope) st (λ v z. Goes (assigned x.num v z))
   run_command g (Fetch r table key) st = on_value (values_of key st.scope) st (λ vs z. on_present (get z.tables (place_of_row table vs)) (fetched r.num z))
   run_command g (Choose test ys ns) st = on_truth (truth_of test st.scope) st (run_block g ys) (run_block g ns)
-  run_command g (ForRows r table test body) st = on_keys (meeting r.num table.num test st.tables (present_keys st.tables table.num) st.scope)
+  run_command g (ForRows r table test body) st = on_keys (only (meeting r.num table.num test st.tables (present_keys st.tables table.num) st.scope))
       (λ ks. then_do (turns ks (row_turn (unit_of g.loops r.num) r.num table.num (run_block g body)) st) (left_loop body))
   run_command g (ForEach x list body) st = then_do (turns (items_of (slice_get g.arguments list.num)) (item_turn (unit_of g.loops x.num) x.num (run_block g body)) st) (left_loop body)
   run_command g (Insert table values) st = on_value (values_of values st.scope) st (λ vs z. on_table (slice_get g.schema table.num) (λ t.

@@ -1,4 +1,6 @@
 pub mod LookLaws
+pub mod LoopLaws
 pub mod NeedLaws
+pub mod RunLaws
 pub mod SlotLaws
 pub mod WriteLaws

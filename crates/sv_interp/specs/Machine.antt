@@ -4,13 +4,16 @@ use Rattle.std.specs.FinMap.{get, insert}
 use Rattle.std.specs.Borrow.{Bor}
 use Rattle.sv_value.specs.declared.values.Val.{Val}
 use Rattle.sv_app.specs.declared.places.Place.{Place}
-use Rattle.sv_app.specs.Schema.{schema_of}
+use Rattle.sv_app.specs.declared.schemas.Table.{Table}
+use Rattle.sv_app.specs.Schema.{Declaration, declaration_of, schema_of}
 use Rattle.sv_app.specs.Tables.{Row, Tables}
+use Rattle.sv_app.specs.declared.txns.Stmt.{Stmt}
+use Rattle.sv_app.specs.Trees.{Block, Finish, Then, command_of, block_of}
 use Rattle.sv_effect.specs.declared.outcomes.Outcome.{Outcome}
 use Rattle.sv_effect.specs.Follows.{Follows}
 use Rattle.sv_effect.specs.Reads.{SeenValue, ReadValue}
 use Rattle.sv_effect.specs.Run as run
-use Rattle.sv_effect.specs.Run.{Stand, Flow, Goes, Ends}
+use Rattle.sv_effect.specs.Run.{Stand, Flow, Goes, Ends, then_do, turns, closed, left_loop}
 use Rattle.sv_effect.specs.RunChanges.{effect_of}
 use Rattle.sv_effect.specs.RunValues as values
 use Rattle.sv_effect.specs.RunValues.{Evaluated, Leaves, Gives}
@@ -38,6 +41,10 @@ evaluated (Some v) s = Gives v (scope_of s)
 abbrev pub listed : {A : Type 0} → Option A → List A
 listed None = []
 listed (Some x) = x ∷ []
+
+abbrev pub declared : Option (Bor Table) → Option Declaration
+declared None = None
+declared (Some table) = Some (declaration_of table.now)
 
 -- the rows that the run wrote itself, the latest first, over the tables
 abbrev pub own_row : OwnRow → Row
@@ -78,3 +85,20 @@ setting_of g = record { schema = schema_of g.tables.now; arguments = g.args.now;
 -- What a step did between two moments, with the rows and with the state: it is what the meaning does, of all tables that agree with the answers given.
 pub record Runs (meaning : Stand → Flow) (told_before told_now : Option Tables) (before now : Option (List ReadValue)) (s : State) (end : Option Outcome) (s' : State) : Type 0 where
   pub ran : Follows told_before told_now before now (λ t. meaning (stand t s) ≡ flow_of end (stand t s'))
+
+-- a block by its first command and the others
+abbrev pub Splits : Block → Option (Bor Stmt × Bor (List Stmt)) → Type 0
+Splits b None = b ≡ Finish
+Splits b (Some p) = b ≡ Then (command_of p.0.now) (block_of p.1.now)
+
+-- a block in a turn of a loop: the instance ends behind it
+abbrev pub closing : values.Progress → (Stand → Flow) → Stand → Flow
+closing outer body st = then_do (body st) (λ z. Goes (closed outer z))
+
+-- a loop: its turns, and what is known behind them
+abbrev pub looping : {A : Type 0} → List A → (A → Stand → Flow) → Block → Stand → Flow
+looping xs turn body st = then_do (turns xs turn st) (left_loop body)
+
+-- Some turns were made, and the others are left.
+pub record Reaches {A : Type 0} (xs left : List A) (turn : A → Stand → Flow) (told_before told_now : Option Tables) (before now : Option (List ReadValue)) (s s' : State) : Type 0 where
+  pub ran : Follows told_before told_now before now (λ t. turns xs turn (stand t s) ≡ turns left turn (stand t s'))

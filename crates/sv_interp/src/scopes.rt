@@ -48,7 +48,8 @@ fn is_known(source: &Source, known: &[Source]) -> bool
     known.iter().any(|other| is_same_source(source, other))
 }
 
-fn is_among(col: u16, known: &[u16]) -> bool
+/// Whether the number is one of these.
+pub fn is_among(col: u16, known: &[u16]) -> bool
     ensures { result ≡ list_any (λ d. col == d) known.now }
 {
     known.iter().any(|other| col == *other)

@@ -46,6 +46,13 @@ impl State {
         Ok(())
     }
 
+    /// Binds a row variable to a row with these values.
+    pub fn bind(&mut self, alloc: Global, row: u16, values: List<Got>) -> Result<(), NoMemory>
+        ensures { OnOk result ((t : Tables) → stand t self.new ≡ with_scope (stand t self.old) (with_row row values (stand t self.old).scope)) }
+    {
+        put_row(alloc, &mut self.scope.rows, row, values)
+    }
+
     /// Gives a reply; the 17th ends the run.
     pub fn reply(&mut self, val: &Val) -> Result<Option<Outcome>, NoMemory>
         ensures { IfOk result (λ end. (t : Tables) → replied val.now (stand t self.old) ≡ flow_of end (stand t self.new)) }

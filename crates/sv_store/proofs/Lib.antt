@@ -3,5 +3,6 @@ pub mod ChangeLaws
 pub mod InitLaws
 pub mod NextLaws
 pub mod RowLaws
+pub mod SampleLaws
 pub mod StoreLaws
 pub mod TakeLaws

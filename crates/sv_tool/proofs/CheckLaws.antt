@@ -1,9 +1,9 @@
--- Tables that were read meet the conditions of acceptance, and what comes of their tokens.
-use Rattle.std.proofs.Common.{◌≡◌, ◌∙◌, ℕ, zero, suc, ◌+◌, ◌-◌, ◌≤◌, ◌<◌, true, nat_lt, cond, List, [], ◌∷◌, ◌++◌, length, take, drop, Option, Some, None, Result, Ok, Err, IfOk, IfSome, MatchOption, refl, sym, ap, subst, arith, append-nil}
-use Rattle.std.specs.List.{All, AllByRecursion}
-use Rattle.std.proofs.lemmas.List.Elements.{All-nil, All-cons}
+-- Tables and transactions that were read meet the conditions of acceptance, and what comes of their tokens.
+use Rattle.std.proofs.Common.{◌≡◌, ◌∙◌, ℕ, zero, suc, ◌+◌, ◌-◌, ◌≤◌, ◌<◌, true, nat_lt, cond, List, [], ◌∷◌, ◌++◌, length, map, ◌*◌, take, drop, Option, Some, None, Result, Ok, Err, IfOk, IfSome, MatchOption, refl, sym, ap, subst, arith, append-nil}
+use Rattle.std.specs.List.{All, AllByRecursion, flat_map}
+use Rattle.std.proofs.lemmas.List.Elements.{All-nil, All-cons, All-head, All-tail}
 use Rattle.std.proofs.lemmas.Bool.Decides.{nat_tests}
-use Rattle.std.proofs.lemmas.List.{length-map, length-drop, take-append-drop}
+use Rattle.std.proofs.lemmas.List.{length-map, length-drop, take-append-drop, length-append}
 use Rattle.std.proofs.Math.Seq.{drop-length, take-length}
 use Rattle.sv_value.specs.declared.spots.Spot.{Spot}
 use Rattle.sv_value.specs.declared.memory.NoMemory.{NoMemory as OutOfMemory}
@@ -17,7 +17,9 @@ use Rattle.sv_app.specs.declared.refusals.Refusal.{Refusal}
 use Rattle.sv_app.specs.declared.refusals.Stop.{Stop}
 use Rattle.sv_app.specs.declared.refusals.Stop.TheVariants.{Refused, NoMemory}
 use Rattle.sv_app.specs.Acceptance.{IsAccepted, IsRefused as IsUnaccepted}
-use Rattle.sv_app.specs.Numbers.{numbered, numbered_table}
+use Rattle.sv_app.specs.Numbers.{numbered, numbered_table, numbered_invariant}
+use Rattle.sv_app.specs.Trees.{Transaction, transactions_of}
+use Rattle.sv_app.specs.TxnNumbers.{numbered_txns, numbered_txn}
 use Rattle.sv_app.specs.Conditions as conditions
 use Rattle.sv_app.specs.Conditions.{KeepsLimits}
 use Rattle.sv_app.specs.Schema.{Rule, Bound, OneOf, Different, Refers, Invariant, Declaration, declaration_of, schema_of}
@@ -25,8 +27,10 @@ use Rattle.sv_schema_reader.specs.Declarations.{invariants_of, declared, declare
 use Rattle.sv_schema_reader.specs.Grammar.{Item, Field, Key, Demand, Written, schema}
 use Rattle.sv_schema_reader.specs.Limits.{IsSmallRule, IsSmallItem, IsSmallTable, AreSmall}
 use Rattle.sv_schema_reader.specs.Refused.{BeginsTable, IsRead, IsAnswer}
+use Rattle.sv_txn_reader.specs.Refused.{AreRead}
+use Rattle.sv_txn_reader.specs.Refused as txn_reader
 use Rattle.sv_typing.proofs.PlaceLaws.{never_both}
-use Rattle.sv_tool.specs.CheckText.{early_refusal, AreAccepted, IsLater, IsRefusal, Later, IsAcceptedAs, IsDocument, code_of, accepted_with, refused_with, IsCheckAnswer, Accepts, Long, Faulty, Refuses}
+use Rattle.sv_tool.specs.CheckText.{early_refusal, AreBehind, AreAccepted, IsLater, IsRefusalBehind, Later, IsRefusal, Behind, Sizes, sizes_of, sizes_in, IsAcceptedAs, IsDocument, code_of, accepted_with, refused_with, IsCheckAnswer, Accepts, Long, Faulty, Refuses}
 use Rattle.sv_tool.specs.Answer.{Answer, at_the_front, form_answer, form_among}
 use Rattle.sv_tool.specs.Commands.{IsAnswerOf}
 use Rattle.sv_tool.specs.declared.words.Command.{Command}
@@ -84,18 +88,82 @@ small_limits tables small = record {
 pub limits_of : (tokens rest : List Token) (declarations : List Declaration) → IsRead tokens rest declarations → KeepsLimits declarations
 limits_of tokens rest declarations read = subst KeepsLimits (sym read.declares) (small_limits read.tables read.small)
 
--- what accepts says of the tables is said of their number
-pub accepted_as : (result : Result App Stop) (declarations : List Declaration) → IfOk result (λ app. schema_of app.tables.items ≡ numbered declarations)
-    → ((refusal : Refusal) → result ≡ Err (Refused refusal) → IsUnaccepted declarations [] refusal) → IsAccepted declarations [] → IsAcceptedAs result (length declarations)
-accepted_as (Ok app) declarations tables refused accepted =
-    sym (length-map app.tables.items declaration_of) ∙ ap (λ (l : List Declaration). length l) tables ∙ length-map declarations (numbered_table declarations)
-accepted_as (Err (Refused refusal)) declarations tables refused accepted = never_both declarations [] refusal accepted (refused refusal refl)
-accepted_as (Err NoMemory) declarations tables refused accepted = tt
+-- numbers leave the invariants where they are
+numbered_count : (declarations tables : List Declaration) → length (flat_map (λ t. t.invs) (map (numbered_table declarations) tables)) ≡ length (flat_map (λ t. t.invs) tables)
+numbered_count declarations [] = refl
+numbered_count declarations (t ∷ tables) =
+    length-append (numbered_table declarations t).invs (flat_map (λ u. u.invs) (map (numbered_table declarations) tables))
+    ∙ ap (λ n. n + length (flat_map (λ u. u.invs) (map (numbered_table declarations) tables))) (length-map t.invs (numbered_invariant declarations t))
+    ∙ ap (λ n. length t.invs + n) (numbered_count declarations tables) ∙ sym (length-append t.invs (flat_map (λ u. u.invs) tables))
+
+-- what is accepted has the sizes of what was read
+pub numbered_sizes : (declarations : List Declaration) (txns : List Transaction) → sizes_of (numbered declarations) (numbered_txns declarations txns) ≡ sizes_of declarations txns
+numbered_sizes declarations txns = λ i. record {
+  tables = length-map declarations (numbered_table declarations) i;
+  txns = length-map txns (numbered_txn declarations txns) i;
+  invariants = numbered_count declarations declarations i;
+}
+
+pub sizes_by : (app : App) (declarations : List Declaration) (txns : List Transaction) → schema_of app.tables.items ≡ numbered declarations → transactions_of app.txns.items ≡ numbered_txns declarations txns
+    → sizes_in app ≡ sizes_of declarations txns
+sizes_by app declarations txns tables are = (λ i. sizes_of (tables i) (are i)) ∙ numbered_sizes declarations txns
+
+-- what accepts says of the tables and transactions is said of their sizes
+pub accepted_sizes : (result : Result App Stop) (declarations : List Declaration) (txns : List Transaction) → IfOk result (λ app. schema_of app.tables.items ≡ numbered declarations)
+    → IfOk result (λ app. transactions_of app.txns.items ≡ numbered_txns declarations txns) → IfOk result (λ app. sizes_in app ≡ sizes_of declarations txns)
+accepted_sizes (Ok app) declarations txns tables are = sizes_by app declarations txns tables are
+accepted_sizes (Err stop) declarations txns tables are = tt
+
+pub accepted_as : (result : Result App Stop) (declarations : List Declaration) (txns : List Transaction) → IfOk result (λ app. schema_of app.tables.items ≡ numbered declarations)
+    → IfOk result (λ app. transactions_of app.txns.items ≡ numbered_txns declarations txns)
+    → ((refusal : Refusal) → result ≡ Err (Refused refusal) → IsUnaccepted declarations txns refusal) → IsAccepted declarations txns → IsAcceptedAs result (sizes_of declarations txns)
+accepted_as (Ok app) declarations txns tables are refused accepted = sizes_by app declarations txns tables are
+accepted_as (Err (Refused refusal)) declarations txns tables are refused accepted = never_both declarations txns refusal accepted (refused refusal refl)
+accepted_as (Err NoMemory) declarations txns tables are refused accepted = tt
 
 -- where nothing refuses early, no token is left
 none_behind : (declarations : List Declaration) (rest : List Token) → early_refusal declarations rest ≡ None → rest ≡ []
 none_behind declarations [] e = refl
 none_behind declarations (token ∷ rest) e = absurd cc
+
+-- the slice behind a place
+pub rest_is : (tokens : List Token) (at : ℕ) → take (length tokens - at) (drop at tokens) ≡ drop at tokens
+rest_is tokens at = ap (λ n. take n (drop at tokens)) (sym (length-drop at tokens)) ∙ take-length (drop at tokens)
+
+-- transactions behind tables
+pub accepted_behind : (result : Result App Stop) (declarations : List Declaration) (txns : List Transaction) (tokens behind rest : List Token) → rest ≡ behind → AreRead txns tokens behind
+    → IfOk result (λ app. early_refusal declarations rest ≡ None) → IfOk result (λ app. IsAccepted declarations txns) → IfOk result (λ app. sizes_in app ≡ sizes_of declarations txns)
+    → IfOk result (λ app. (x : List Transaction) × AreBehind declarations tokens x × (sizes_in app ≡ sizes_of declarations x))
+accepted_behind (Ok app) declarations txns tokens behind rest is read plain accepted sizes =
+    let none : rest ≡ [] = none_behind declarations rest plain in
+    (txns, record { read = subst (AreRead txns tokens) (sym is ∙ none) read; plain = ap (early_refusal declarations) (sym none) ∙ plain; accepted = accepted }, sizes)
+accepted_behind (Err stop) declarations txns tokens behind rest is read plain accepted sizes = tt
+
+pub refused_behind : (declarations : List Declaration) (txns : List Transaction) (tokens behind rest : List Token) (end : Spot) (refusal : Refusal) → rest ≡ behind → AreRead txns tokens behind
+    → IsLater declarations txns rest refusal → IsRefusalBehind declarations tokens end refusal
+refused_behind declarations txns tokens behind rest end refusal is read later = Later txns behind read (subst (λ l. IsLater declarations txns l refusal) is later)
+
+-- a reader that reads the transactions that there are
+abbrev ReadsTxns : List Token → (List Transaction → ℕ → Type 0) → ℕ → Type 0
+ReadsTxns tokens Answers n = (txns : List Transaction) (rest : List Token) → AreRead txns tokens rest → Answers txns (n - length rest)
+
+pub all_behind : (result : Result App Stop) (declarations : List Declaration) (whole tokens : List Token) (place : ℕ) (rest : List Token) (found txns : List Transaction) → rest ≡ drop place whole
+    → ReadsTxns tokens (λ x at. (found ≡ x) × (place ≡ at)) (length whole)
+    → (early_refusal declarations rest ≡ None → IsAccepted declarations found → IsAcceptedAs result (sizes_of declarations found)) → AreBehind declarations tokens txns
+    → IsAcceptedAs result (sizes_of declarations txns)
+all_behind result declarations whole tokens place rest found txns is all accepts b =
+    let answer = all txns [] b.read in
+    let none : rest ≡ [] = is ∙ ap (λ n. drop n whole) (answer.1 ∙ nothing_less (length whole)) ∙ drop-length whole in
+    let early : early_refusal declarations rest ≡ None = ap (early_refusal declarations) none ∙ b.plain in
+    subst (λ (x : List Transaction). IsAcceptedAs result (sizes_of declarations x)) answer.0 (accepts early (subst (IsAccepted declarations) (sym answer.0) b.accepted))
+  where
+    nothing_less : (n : ℕ) → n - 0 ≡ n
+    nothing_less n = omega arith
+
+pub unread_behind : (stop : Stop) (declarations : List Declaration) (tokens : List Token) (n : ℕ) (txns : List Transaction) → ReadsTxns tokens (txn_reader.IsAnswer (Err stop)) n → AreBehind declarations tokens txns
+    → IsAcceptedAs (Err stop) (sizes_of declarations txns)
+unread_behind (Refused refusal) declarations tokens n txns all b = all txns [] b.read
+unread_behind NoMemory declarations tokens n txns all b = tt
 
 from_zero : (at : ℕ) → at - 0 ≡ at
 from_zero at = omega arith
@@ -103,53 +171,47 @@ from_zero at = omega arith
 abbrev ReadAt : List Token → ℕ → List Declaration → Type 0
 ReadAt tokens at declarations = IsRead (take (at - 0) tokens) (drop at tokens) declarations
 
-read_whole : (tokens : List Token) (at : ℕ) (declarations : List Declaration) → ReadAt tokens at declarations → drop at tokens ≡ [] → IsRead tokens [] declarations
-read_whole tokens at declarations read none = subst (λ (p : List Token × List Token). IsRead p.0 p.1 declarations) (λ i. (whole i, none i)) read
-  where
-    whole : take (at - 0) tokens ≡ tokens
-    whole = ap (λ n. take n tokens) (from_zero at) ∙ sym (append-nil (take at tokens)) ∙ ap (λ l. take at tokens ++ l) (sym none) ∙ take-append-drop at tokens
+split_at : (tokens : List Token) (at : ℕ) → tokens ≡ take (at - 0) tokens ++ drop at tokens
+split_at tokens at = sym (take-append-drop at tokens) ∙ ap (λ n. take n tokens ++ drop at tokens) (sym (from_zero at))
 
--- the slice behind a place
-pub rest_is : (tokens : List Token) (at : ℕ) → take (length tokens - at) (drop at tokens) ≡ drop at tokens
-rest_is tokens at = ap (λ n. take n (drop at tokens)) (sym (length-drop at tokens)) ∙ take-length (drop at tokens)
+pub accepted_tokens : (result : Result App Stop) (tokens : List Token) (at : ℕ) (declarations : List Declaration) → ReadAt tokens at declarations
+    → IfOk result (λ app. (x : List Transaction) × AreBehind declarations (drop at tokens) x × (sizes_in app ≡ sizes_of declarations x))
+    → IfOk result (λ app. (d : List Declaration) × (x : List Transaction) × AreAccepted tokens d x × (sizes_in app ≡ sizes_of d x))
+accepted_tokens (Ok app) tokens at declarations read behind =
+    (declarations, behind.0, record { front = take (at - 0) tokens; rest = drop at tokens; whole = split_at tokens at; tables = read; behind = behind.1 }, behind.2)
+accepted_tokens (Err stop) tokens at declarations read behind = tt
 
-pub accepted_tokens : (result : Result App Stop) (tokens : List Token) (at : ℕ) (rest : List Token) (declarations : List Declaration) → rest ≡ drop at tokens → ReadAt tokens at declarations
-    → IfOk result (λ app. early_refusal declarations rest ≡ None) → IfOk result (λ app. IsAccepted declarations []) → IfOk result (λ app. length app.tables.items ≡ length declarations)
-    → IfOk result (λ app. (x : List Declaration) × AreAccepted tokens x × (length app.tables.items ≡ length x))
-accepted_tokens (Ok app) tokens at rest declarations is read plain accepted count =
-    let none : rest ≡ [] = none_behind declarations rest plain in
-    (declarations, record { read = read_whole tokens at declarations read (sym is ∙ none); plain = ap (early_refusal declarations) (sym none) ∙ plain; accepted = accepted }, count)
-accepted_tokens (Err stop) tokens at rest declarations is read plain accepted count = tt
-
-pub refused_tokens : (tokens : List Token) (at : ℕ) (rest : List Token) (end : Spot) (declarations : List Declaration) (refusal : Refusal) → rest ≡ drop at tokens → ReadAt tokens at declarations
-    → IsLater declarations rest refusal → IsRefusal tokens end refusal
-refused_tokens tokens at rest end declarations refusal is read later =
-    Later (take (at - 0) tokens) (drop at tokens) declarations (sym (take-append-drop at tokens) ∙ ap (λ n. take n tokens ++ drop at tokens) (sym (from_zero at))) read
-    (subst (λ l. IsLater declarations l refusal) is later)
+pub refused_tokens : (tokens : List Token) (at : ℕ) (end : Spot) (declarations : List Declaration) (refusal : Refusal) → ReadAt tokens at declarations
+    → IsRefusalBehind declarations (drop at tokens) end refusal → IsRefusal tokens end refusal
+refused_tokens tokens at end declarations refusal read behind = Behind (take (at - 0) tokens) (drop at tokens) declarations (split_at tokens at) read behind
 
 -- a reader that reads all tables that there are
 abbrev ReadsAll : List Token → (List Declaration → ℕ → Type 0) → Type 0
 ReadsAll tokens Answers = (front rest : List Token) (tables : List Written) → tokens ≡ front ++ rest → schema tables front → AreSmall tables → (BeginsTable rest → ⊥)
     → Answers (all_declared tables) (0 + length front)
 
-read_answer : (tokens : List Token) (declarations : List Declaration) (Answers : List Declaration → ℕ → Type 0) → ReadsAll tokens Answers → IsRead tokens [] declarations
-    → Answers declarations (length tokens)
-read_answer tokens declarations Answers all read =
-    let same : 0 + length tokens ≡ length tokens = omega arith in
-    subst (λ d. Answers d (length tokens)) (sym read.declares) (subst (Answers (all_declared read.tables)) same (all tokens [] read.tables (sym (append-nil tokens)) read.is read.small read.ends))
+read_answer : (tokens front rest : List Token) (declarations : List Declaration) (Answers : List Declaration → ℕ → Type 0) → ReadsAll tokens Answers → tokens ≡ front ++ rest → IsRead front rest declarations
+    → Answers declarations (length front)
+read_answer tokens front rest declarations Answers all whole read =
+    let same : 0 + length front ≡ length front = omega arith in
+    subst (λ d. Answers d (length front)) (sym read.declares) (subst (Answers (all_declared read.tables)) same (all front rest read.tables whole read.is read.small read.ends))
 
-pub all_tokens : (result : Result App Stop) (tokens : List Token) (at : ℕ) (rest : List Token) (found declarations : List Declaration) → rest ≡ drop at tokens → ReadsAll tokens (λ d place. (found ≡ d) × (at ≡ place))
-    → (early_refusal found rest ≡ None → IsAccepted found [] → IsAcceptedAs result (length found)) → AreAccepted tokens declarations → IsAcceptedAs result (length declarations)
-all_tokens result tokens at rest found declarations is all accepts a =
-    let answer = read_answer tokens declarations (λ d place. (found ≡ d) × (at ≡ place)) all a.read in
-    let none : rest ≡ [] = is ∙ ap (λ n. drop n tokens) answer.1 ∙ drop-length tokens in
-    let early : early_refusal found rest ≡ None = (λ i. early_refusal (answer.0 i) (none i)) ∙ a.plain in
-    subst (λ (d : List Declaration). IsAcceptedAs result (length d)) answer.0 (accepts early (subst (λ (d : List Declaration). IsAccepted d []) (sym answer.0) a.accepted))
+drop_front : (front rest : List Token) → drop (length front) (front ++ rest) ≡ rest
+drop_front [] rest = refl
+drop_front (token ∷ front) rest = drop_front front rest
 
-pub no_memory : (stop : Stop) (tokens : List Token) (declarations : List Declaration) → ReadsAll tokens (IsAnswer (Err stop)) → AreAccepted tokens declarations
-    → IsAcceptedAs (Err stop) (length declarations)
-no_memory (Refused refusal) tokens declarations all a = read_answer tokens declarations (IsAnswer (Err (Refused refusal))) all a.read
-no_memory NoMemory tokens declarations all a = tt
+pub all_tokens : (result : Result App Stop) (tokens : List Token) (at : ℕ) (found declarations : List Declaration) (txns : List Transaction) → ReadsAll tokens (λ d place. (found ≡ d) × (at ≡ place))
+    → ((x : List Transaction) → AreBehind found (drop at tokens) x → IsAcceptedAs result (sizes_of found x)) → AreAccepted tokens declarations txns → IsAcceptedAs result (sizes_of declarations txns)
+all_tokens result tokens at found declarations txns all accepts a =
+    let answer = read_answer tokens a.front a.rest declarations (λ d place. (found ≡ d) × (at ≡ place)) all a.whole a.tables in
+    let rest : drop at tokens ≡ a.rest = (λ i. drop (answer.1 i) (a.whole i)) ∙ drop_front a.front a.rest in
+    subst (λ (d : List Declaration). IsAcceptedAs result (sizes_of d txns)) answer.0
+    (accepts txns (subst (λ (p : List Declaration × List Token). AreBehind p.0 p.1 txns) (λ i. (sym answer.0 i, sym rest i)) a.behind))
+
+pub unread_tokens : (stop : Stop) (tokens : List Token) (declarations : List Declaration) (txns : List Transaction) → ReadsAll tokens (IsAnswer (Err stop)) → AreAccepted tokens declarations txns
+    → IsAcceptedAs (Err stop) (sizes_of declarations txns)
+unread_tokens (Refused refusal) tokens declarations txns all a = read_answer tokens a.front a.rest declarations (IsAnswer (Err (Refused refusal))) all a.whole a.tables
+unread_tokens NoMemory tokens declarations txns all a = tt
 
 -- a place past the end is the end
 pub spot_past_end : (bytes : List ℕ) (at : ℕ) → length bytes ≤ at → spot_at bytes (length bytes) ≡ spot_at bytes at
@@ -163,19 +225,20 @@ spot_past_end bytes at past = ap spot_past (take-length bytes ∙ sym (take_past
 
 -- a document by its tokens
 pub document_of_tokens : (bytes : List ℕ) (tokens : List Token) (result : Result App Stop) → length bytes ≤ most_bytes → lexed bytes ≡ Ok tokens
-    → IfOk result (λ app. (x : List Declaration) × AreAccepted tokens x × (length app.tables.items ≡ length x))
-    → IfOk result (λ app. (x : List Declaration) × IsDocument bytes x × (length app.tables.items ≡ length x))
-document_of_tokens bytes tokens (Ok app) short are x = (x.0, record { short = short; tokens = tokens; are = are; accepted = x.1 }, x.2)
+    → IfOk result (λ app. (d : List Declaration) × (x : List Transaction) × AreAccepted tokens d x × (sizes_in app ≡ sizes_of d x))
+    → IfOk result (λ app. (d : List Declaration) × (x : List Transaction) × IsDocument bytes d x × (sizes_in app ≡ sizes_of d x))
+document_of_tokens bytes tokens (Ok app) short are x = (x.0, x.1, record { short = short; tokens = tokens; are = are; accepted = x.2 }, x.3)
 document_of_tokens bytes tokens (Err stop) short are x = tt
 
 same_tokens : (a b : List Token) → ◌≡◌ {A = Result (List Token) Fault} (Ok a) (Ok b) → a ≡ b
 same_tokens a b e = cc
 
-pub tokens_of_document : (bytes : List ℕ) (tokens : List Token) (declarations : List Declaration) → lexed bytes ≡ Ok tokens → IsDocument bytes declarations → AreAccepted tokens declarations
-tokens_of_document bytes tokens declarations are d = subst (λ l. AreAccepted l declarations) (same_tokens d.tokens tokens (sym d.are ∙ are)) d.accepted
+pub tokens_of_document : (bytes : List ℕ) (tokens : List Token) (declarations : List Declaration) (txns : List Transaction) → lexed bytes ≡ Ok tokens → IsDocument bytes declarations txns
+    → AreAccepted tokens declarations txns
+tokens_of_document bytes tokens declarations txns are d = subst (λ l. AreAccepted l declarations txns) (same_tokens d.tokens tokens (sym d.are ∙ are)) d.accepted
 
-pub no_document : (bytes : List ℕ) (fault : Fault) (declarations : List Declaration) → lexed bytes ≡ Err fault → IsDocument bytes declarations → ⊥
-no_document bytes fault declarations is d = let no : ◌≡◌ {A = Result (List Token) Fault} (Err fault) (Ok d.tokens) = sym is ∙ d.are in absurd cc
+pub no_document : (bytes : List ℕ) (fault : Fault) (declarations : List Declaration) (txns : List Transaction) → lexed bytes ≡ Err fault → IsDocument bytes declarations txns → ⊥
+no_document bytes fault declarations txns is d = let no : ◌≡◌ {A = Result (List Token) Fault} (Err fault) (Ok d.tokens) = sym is ∙ d.are in absurd cc
 
 pub refuses : (bytes : List ℕ) (tokens seen : List Token) (end : Spot) (refusal : Refusal) → length bytes ≤ most_bytes → lexed bytes ≡ Ok tokens → seen ≡ tokens → end ≡ spot_at bytes (length bytes)
     → IsRefusal seen end refusal → IsCheckAnswer bytes (refused_with refusal)
@@ -191,10 +254,26 @@ faulty bytes None stop refusal short is at e = let same : stop ≡ Refused refus
 faulty bytes (Some fault) stop refusal short is at e =
     subst (λ r. IsCheckAnswer bytes (refused_with r)) (same_refusal stop (record { spot = spot_at bytes (place_of fault); code = code_of fault }) refusal at e) (Faulty fault short is)
 
-pub answers_accepted : (bytes : List ℕ) (result : Result CodeAnswer OutOfMemory) (n : ℕ) → (schema : List Declaration) × IsDocument bytes schema × (n ≡ length schema)
-    → IfOk result (λ answer. said_by answer ≡ accepted_with n) → IfOk result (λ answer. IsCheckAnswer bytes (said_by answer))
-answers_accepted bytes (Ok answer) n x said = subst (IsCheckAnswer bytes) (sym (said ∙ ap accepted_with x.2)) (Accepts x.0 x.1)
-answers_accepted bytes (Err none) n x said = tt
+pub answers_accepted : (bytes : List ℕ) (result : Result CodeAnswer OutOfMemory) (sizes : Sizes) → (d : List Declaration) × (x : List Transaction) × IsDocument bytes d x × (sizes ≡ sizes_of d x)
+    → IfOk result (λ answer. said_by answer ≡ accepted_with sizes) → IfOk result (λ answer. IsCheckAnswer bytes (said_by answer))
+answers_accepted bytes (Ok answer) sizes x said = subst (IsCheckAnswer bytes) (sym (said ∙ ap accepted_with x.3)) (Accepts x.0 x.1 x.2)
+answers_accepted bytes (Err none) sizes x said = tt
+
+-- an accepted document has at most 256 invariants
+few_in : (tables : List Declaration) → All conditions.IsSmallTable tables → length (flat_map (λ t. t.invs) tables) ≤ 16 * length tables
+few_in [] each = omega arith
+few_in (t ∷ tables) each =
+    let first : length t.invs ≤ 16 = (All-head conditions.IsSmallTable t tables each).invariants in
+    let rest : length (flat_map (λ u. u.invs) tables) ≤ 16 * length tables = few_in tables (All-tail conditions.IsSmallTable t tables each) in
+    let both : length (t.invs ++ flat_map (λ u. u.invs) tables) ≡ length t.invs + length (flat_map (λ u. u.invs) tables) = length-append t.invs (flat_map (λ u. u.invs) tables) in
+    omega (arith, first, rest, both)
+
+pub few_invariants : (bytes : List ℕ) (sizes : Sizes) → (d : List Declaration) × (x : List Transaction) × IsDocument bytes d x × (sizes ≡ sizes_of d x) → sizes.invariants ≤ 256
+few_invariants bytes sizes x =
+    let limits : KeepsLimits x.0 = limits_of x.2.accepted.front x.2.accepted.rest x.0 x.2.accepted.tables in
+    let few : length (flat_map (λ t. t.invs) x.0) ≤ 16 * length x.0 = few_in x.0 limits.each in
+    let same : sizes.invariants ≡ length (flat_map (λ t. t.invs) x.0) = ap (λ (s : Sizes). s.invariants) x.3 in
+    omega (arith, few, same, limits.count)
 
 long_answer : (command : Command) (bytes : List ℕ) (answer : Answer) → most_bytes < length bytes → answer ≡ refused_with (at_the_front TooLong) → IsAnswerOf command bytes answer
 long_answer Replay bytes answer long is = is ∙ sym (ap (λ b. form_answer (cond b (Err (at_the_front TooLong)) (form_among (lexed bytes)))) high)

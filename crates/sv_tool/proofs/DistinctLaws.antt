@@ -8,8 +8,8 @@ use Rattle.sv_tool.specs.declared.readers.Adder.{Adder}
 use Rattle.sv_app.specs.declared.places.Place.{Place}
 use Rattle.sv_app.specs.declared.requests.InitRow.{InitRow}
 use Rattle.sv_app.proofs.PlaceLaws.{place_total, exact_places}
-use Rattle.sv_core.specs.TablesOfCut.{is_place, init_place}
-use Rattle.sv_core.specs.Sound.{AreDistinct}
+use Rattle.sv_effect.specs.TablesOfCut.{is_place, init_place}
+use Rattle.sv_store.specs.Initial.{AreDistinct}
 use Rattle.sv_tool.specs.Grammar.{AreDifferent}
 use Rattle.sv_tool.specs.Reading.{has_name, names_differ, is_same_place, has_place, places_differ}
 use Rattle.sv_tool.proofs.PlaceLaws.{names_of}

@@ -25,7 +25,7 @@ use Rattle.sv_tool.specs.Grammar.{IsForm, IsRow, IsStep, IsAsk, IsVal, Plain, Si
 use Rattle.sv_tool.specs.ReplayText.{after_steps}
 use Rattle.sv_tool.specs.CanMake.{CanAsk, CanMakeAll}
 
-val_fits : {kinds : List TokenKind} {n : ℤ} → IsVal kinds n → IsTrue (fits64 n)
+pub val_fits : {kinds : List TokenKind} {n : ℤ} → IsVal kinds n → IsTrue (fits64 n)
 val_fits (Plain n fits) = fits
 val_fits (Signed n fits) = fits
 
@@ -50,7 +50,13 @@ init_rows table tokens (row ∷ rows) many = all_more IsInitRow row rows (init_r
 
 pub form_sound : (tokens : List Token) (form : Form) → IsForm tokens form → Sound (document_of_form form)
 form_sound tokens form f = record {
-  tables = refl;
+  schema = record {
+    number = refl;
+    kind = refl;
+    columns = (record { key_type = refl; key_merge = refl; key_number = refl; counter_type = refl; counter_merge = refl; counter_number = refl; differ = f.table.differ }, record { same = refl; number = refl });
+    one_key = refl;
+    free = refl;
+  };
   txns = f.txn_count.to;
   rows = init_rows form.table f.row_part form.init f.rows;
   few = f.row_count;

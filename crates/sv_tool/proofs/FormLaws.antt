@@ -10,7 +10,7 @@ use Rattle.sv_value.specs.declared.packets.Packet.TheVariants.{Blue, Red}
 use Rattle.sv_app.specs.declared.apps.Ident.{Ident}
 use Rattle.sv_tool.specs.declared.readers.Adder.{Adder}
 use Rattle.sv_app.specs.declared.requests.InitRow.{InitRow}
-use Rattle.sv_core.specs.Sound.{AreDistinct}
+use Rattle.sv_store.specs.Initial.{AreDistinct}
 use Rattle.sv_tool.specs.declared.readers.Parts.{Parts}
 use Rattle.sv_tool.specs.declared.readers.Schema.{Schema}
 use Rattle.sv_tool.specs.declared.steps.Step.{Step}
@@ -28,8 +28,6 @@ use Rattle.sv_tool.proofs.StepLaws.{step_read, step_there}
 
 -- the parts of a document, as the grammar speaks of them
 pub record ReadParts (tokens : List Token) (parts : Parts) (rest : List Token) : Type 0 where
-  pub key : List ℕ
-  pub counter : List ℕ
   pub table_part : List Token
   pub txn_part : List Token
   pub init_part : List Token
@@ -37,17 +35,17 @@ pub record ReadParts (tokens : List Token) (parts : Parts) (rest : List Token) :
   pub replay_part : List Token
   pub step_part : List Token
   pub whole : tokens ≡ table_part ++ (txn_part ++ (init_part ++ (row_part ++ (replay_part ++ (step_part ++ rest)))))
-  pub table : IsTable table_part parts.table.name key counter
-  pub txns : AreMany (IsTxn parts.table.name counter) txn_part (names_of parts.txns)
+  pub table : IsTable table_part parts.schema.table.name parts.schema.key parts.schema.counter
+  pub txns : AreMany (IsTxn parts.schema.table.name parts.schema.counter) txn_part (names_of parts.txns)
   pub init : kinds init_part ≡ Mark Percents ∷ word (codes "init") ∷ []
-  pub rows : AreMany (IsRow parts.table.name) row_part parts.init
+  pub rows : AreMany (IsRow parts.schema.table.name) row_part parts.init
   pub replay : kinds replay_part ≡ Mark Percents ∷ word (codes "replay") ∷ word (codes "sites") ∷ Mark Eq ∷ count parts.sites ∷ []
-  pub steps : AreMany (IsStep parts.table.name (names_of parts.txns) parts.sites) step_part parts.steps
+  pub steps : AreMany (IsStep parts.schema.table.name (names_of parts.txns) parts.sites) step_part parts.steps
   pub txn_count : length parts.txns ≤ 32
   pub row_count : length parts.init ≤ 1024
   pub step_count : length parts.steps ≤ 65536
   pub site_count : IsWithin 1 8 parts.sites
-  pub table_numbered : parts.table.num ≡ 0
+  pub table_numbered : parts.schema.table.num ≡ 0
   pub txns_numbered : CountFrom 0 (map (λ txn. txn.name.num) parts.txns)
 
 on_bound : {A B G : Type 0} (read : Read A) (more : A → List Token → Read B) (answer : B) (last : List Token) → read >>= more ≡ Some (answer, last)
@@ -90,15 +88,13 @@ parts_read tokens parts rest e =
     on_after (Mark Percents ∷ word (codes "replay") ∷ word (codes "sites") ∷ Mark Eq ∷ []) _ parts rest r4 e4 λ r5 t5 e5.
     on_number _ parts rest 1 8 r5 e5 λ sites r6 t6 sites_fit e6.
     on_bound (steps_at schema.table.name txns sites r6) _ parts rest e6 λ steps r7 is7 e7.
-    let same : Same (record { table = schema.table; txns = txns; init = init; sites = sites; steps = steps }) parts r7 rest = same_read e7 in
+    let same : Same (record { schema = schema; txns = txns; init = init; sites = sites; steps = steps }) parts r7 rest = same_read e7 in
     let table = table_read tokens schema r1 is1 in
     let are_txns = txns_read schema r1 txns r2 is2 in
     let are_rows = rows_read schema.table.name r3 init r4 is4 in
     let replay = took_then t5 t6 in
     let are_steps = steps_read schema.table.name txns sites r6 steps r7 is7 in
     subst (λ (p : Parts). ReadParts tokens p rest) same.item (record {
-      key = table.key;
-      counter = schema.counter;
       table_part = table.front;
       txn_part = are_txns.front;
       init_part = t3.front;
@@ -187,8 +183,6 @@ left_six a b c d e f = simp (append_assoc, append-nil)
 
 parts_form : (tokens : List Token) (parts : Parts) (rest : List Token) → ReadParts tokens parts rest → WholeFacts rest parts → IsForm tokens (form_of_parts parts)
 parts_form tokens parts rest r w = record {
-  key = r.key;
-  counter = r.counter;
   table_part = r.table_part;
   txn_part = r.txn_part;
   init_part = r.init_part;
@@ -295,16 +289,16 @@ parts_there tokens form f =
     let l2 : List Token = f.init_part ++ l3 in
     let l1 : List Token = f.txn_part ++ l2 in
     let whole : tokens ≡ f.table_part ++ l1 = f.whole ∙ sym (left_six f.table_part f.txn_part f.init_part f.row_part f.replay_part f.step_part) in
-    let t = table_there form.table f.key f.counter f.table_part l1 f.table in
+    let t = table_there form.table form.key form.counter f.table_part l1 f.table in
     let table : Ident = record { name = form.table; spot = t.spot; num = 0 } in
-    let schema : Schema = record { table = table; counter = f.counter } in
+    let schema : Schema = record { table = table; key = form.key; counter = form.counter } in
     let txns = txns_there schema f.txn_part l2 form.txns f.txns (ends_first (Mark Percents) _ f.init_part l3 f.init) f.txn_count.to in
     let rows = rows_there form.table f.row_part l4 form.init f.rows (ends_first (Mark Percents) _ f.replay_part l5 f.replay) f.row_count in
     let names : AreDifferent (names_of txns.found) = subst AreDifferent (sym txns.seen) f.names in
     let are : AreMany (IsStep form.table (names_of txns.found) form.sites) f.step_part form.steps
     = subst (λ (n : List (List ℕ)). AreMany (IsStep form.table n form.sites) f.step_part form.steps) (sym txns.seen) f.steps in
     let steps = steps_there form.table txns.found form.sites f.step_part [] form.steps names are refl f.step_count in
-    let parts : Parts = record { table = table; txns = txns.found; init = form.init; sites = form.sites; steps = form.steps } in
+    let parts : Parts = record { schema = schema; txns = txns.found; init = form.init; sites = form.sites; steps = form.steps } in
     record {
       parts = parts;
       is = ap parts_at whole ∙ (
@@ -316,7 +310,7 @@ parts_there tokens form f =
           number_there 1 8 form.sites [] b5 l5 _ _ f.site_count k5 λ b6 k6.
           rw (none_there b6 l5 k6) (
           bind_is (steps_at form.table txns.found form.sites l5) _ form.steps [] _ steps refl))))));
-      same = λ i. record { table = form.table; txns = txns.seen i; init = form.init; sites = form.sites; steps = form.steps };
+      same = λ i. record { table = form.table; key = form.key; counter = form.counter; txns = txns.seen i; init = form.init; sites = form.sites; steps = form.steps };
     }
 
 -- what is in the grammar is read

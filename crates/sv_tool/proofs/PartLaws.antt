@@ -51,10 +51,9 @@ differ_test a b ne = by_test (bytes_eq a b) refl
     by_test false t = t
 
 pub record ReadTable (tokens : List Token) (schema : Schema) (rest : List Token) : Type 0 where
-  pub key : List ℕ
   pub front : List Token
   pub whole : tokens ≡ front ++ rest
-  pub is : IsTable front schema.table.name key schema.counter
+  pub is : IsTable front schema.table.name schema.key schema.counter
   pub numbered : schema.table.num ≡ 0
 
 pub table_read : (tokens : List Token) (schema : Schema) (rest : List Token) → table_at tokens ≡ Some (schema, rest) → ReadTable tokens schema rest
@@ -68,13 +67,12 @@ table_read tokens schema rest e =
     on_name _ schema rest r5 e5 λ counter r6 t6 counter_free e6.
     on_after (word (codes "int") ∷ Mark At ∷ word (codes "NUMDELTA") ∷ Mark Comma ∷ word (codes "primary") ∷ word (codes "key") ∷ Mark LeftParen ∷ Name key ∷ Mark RightParen ∷ Mark RightParen ∷ Mark Semi ∷ []) _ schema rest r6 e6 λ r7 t7 e7.
     let named : Ident = record { name = table; spot = spot_of r1; num = 0 } in
-    let d = apart key counter (record { table = named; counter = counter }) schema r7 rest e7 in
+    let d = apart key counter (record { table = named; key = key; counter = counter }) schema r7 rest e7 in
     let took = took_then t1 (took_then t2 (took_then t3 (took_then t4 (took_then t5 (took_then t6 t7))))) in
     record {
-      key = key;
       front = took.front;
       whole = took.whole ∙ ap (λ (l : List Token). took.front ++ l) d.1.rests;
-      is = subst (λ (s : Schema). IsTable took.front s.table.name key s.counter) d.1.item
+      is = subst (λ (s : Schema). IsTable took.front s.table.name s.key s.counter) d.1.item
           (record { written = took.are; table_free = table_free; key_free = key_free; counter_free = counter_free; differ = d.0 });
       numbered = ap (λ (s : Schema). s.table.num) (sym d.1.item);
     }
@@ -90,11 +88,11 @@ ident_there {B} num name ms (token ∷ tokens) last more answer free e next =
     ∙ next tokens others
 
 -- a table that stands first is read
-pub record TableThere (table counter : List ℕ) (tokens last : List Token) : Type 0 where
+pub record TableThere (table key counter : List ℕ) (tokens last : List Token) : Type 0 where
   pub spot : Spot
-  pub is : table_at (tokens ++ last) ≡ Some (record { table = record { name = table; spot = spot; num = 0 }; counter = counter }, last)
+  pub is : table_at (tokens ++ last) ≡ Some (record { table = record { name = table; spot = spot; num = 0 }; key = key; counter = counter }, last)
 
-pub table_there : (table key counter : List ℕ) (tokens last : List Token) → IsTable tokens table key counter → TableThere table counter tokens last
+pub table_there : (table key counter : List ℕ) (tokens last : List Token) → IsTable tokens table key counter → TableThere table key counter tokens last
 unfolding table_at
 table_there table key counter tokens last t =
     let s = after_stands (Mark At ∷ word (codes "UOSET") ∷ word (codes "create") ∷ word (codes "table") ∷ []) _ tokens last _ t.written in

@@ -7,6 +7,7 @@ use Rattle.sv_lex.specs.declared.tokens.Token.{Token}
 use Rattle.sv_lex.specs.declared.tokens.TokenKind.{TokenKind}
 use Rattle.sv_app.specs.declared.schemas.Table.{Table}
 use Rattle.sv_app.specs.declared.apps.Ident.{Ident}
+use Rattle.sv_app.specs.Schema.{Declaration, schema_of}
 use Rattle.sv_app.specs.declared.txns.Txn.{Txn}
 use Rattle.sv_tool.specs.declared.readers.Adder.{Adder}
 use Rattle.sv_app.specs.declared.refusals.Stop.{Stop}
@@ -26,38 +27,8 @@ use Rattle.sv_tool.specs.Form.{Form, Describes, document_of_form, CountFrom, IsN
 use Rattle.sv_tool.specs.Grammar.{IsVal, Plain, Signed, AreMany, IsRow, IsAsk, IsDeliver, IsShow, IsStep, IsForm}
 use Rattle.sv_tool.specs.Reading.{Reads, at_start, HasApp, is_whole, parts_at, form_of_parts, whole_form, form_of}
 use Rattle.sv_tool.specs.Replays.{StepFits, StepsFit, IsReplay, Answers}
+use Rattle.sv_tool.proofs.FitLaws.{val_fits, form_sound}
 use Rattle.sv_tool.proofs.FormLaws.{ReadParts, parts_read, form_read, form_there}
-
-val_fits : {part : List TokenKind} {z : ℤ} → IsVal part z → IsTrue (fits64 z)
-val_fits (Plain n fits) = fits
-val_fits (Signed n fits) = fits
-
-row_fits : (table : List ℕ) (tokens : List Token) (row : InitRow) → IsRow table tokens row → IsInitRow row
-row_fits table tokens row r = record {
-  key = r.key;
-  count = r.start;
-  table = r.numbered;
-  named = r.keyed;
-  values = r.values;
-  key_fits = val_fits r.pair.first_is;
-  count_fits = val_fits r.pair.second_is;
-}
-
-rows_fit : (table : List ℕ) (tokens : List Token) (rows : List InitRow) → AreMany (IsRow table) tokens rows → All IsInitRow rows
-rows_fit table tokens [] are = All-nil IsInitRow
-rows_fit table tokens (row ∷ rows) are = All-cons IsInitRow row rows (row_fits table are.front row are.first) (rows_fit table are.others rows are.then)
-
-form_sound : (tokens : List Token) (form : Form) → IsForm tokens form → Sound (document_of_form form)
-form_sound tokens form f = record {
-  tables = refl;
-  txns = f.txn_count.to;
-  rows = rows_fit form.table f.row_part form.init f.rows;
-  few = f.row_count;
-  distinct = f.keys;
-  some = f.site_count.from;
-  sites = f.site_count.to;
-  asks = f.ask_count;
-}
 
 ask_fits : (form : Form) (tokens : List Token) (session : ℕ) (request : Request) → IsAsk form.txns tokens session request → FitsDoc (document_of_form form) request
 ask_fits form tokens session request a = record {
@@ -84,9 +55,13 @@ name_numbers name (x ∷ xs) = ap (λ (l : List ℕ). (name x).num ∷ l) (name_
 abbrev numbers : List Ident → List ℕ
 numbers names = map (λ (ident : Ident). ident.num) names
 
+schema_idents : (tables : List Table) → map (λ table. table.name) tables ≡ map (λ (t : Declaration). t.name) (schema_of tables)
+schema_idents [] = refl
+schema_idents (table ∷ tables) = ap (λ (l : List Ident). table.name ∷ l) (schema_idents tables)
+
 app_numbered : (tokens : List Token) (parts : Parts) (rest : List Token) (replay : Replay) → ReadParts tokens parts rest → HasApp replay parts → IsNumbered replay
 app_numbered tokens parts rest replay r app = record {
-  tables = subst (CountFrom 0) (sym (name_numbers (λ (table : Table). table.name) replay.doc.app.tables.items ∙ ap numbers app.tables)) (r.table_numbered, tt);
+  tables = subst (CountFrom 0) (sym (name_numbers (λ (table : Table). table.name) replay.doc.app.tables.items ∙ ap numbers (schema_idents replay.doc.app.tables.items ∙ ap (map (λ (t : Declaration). t.name)) app.tables))) (refl, tt);
   txns = subst (CountFrom 0) (name_numbers (λ (adder : Adder). adder.name) parts.txns ∙ ap numbers (sym app.txns) ∙ sym (name_numbers (λ (txn : Txn). txn.name) replay.doc.app.txns.items)) r.txns_numbered;
 }
 

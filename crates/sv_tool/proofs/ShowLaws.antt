@@ -3,8 +3,8 @@ use Rattle.std.proofs.Common.{◌≡◌, ℕ, ◌+◌, ◌<◌, List, [], ◌∷
 use Rattle.std.specs.Prelude.{map, ◌==◌}
 use Rattle.std.proofs.lemmas.List.{take_more, map_push}
 use Rattle.std.proofs.lemmas.List.Elements.{filter-append}
-use Rattle.sv_core.specs.declared.rows.KeptRow.{KeptRow}
-use Rattle.sv_core.specs.Rows.{entry_of}
+use Rattle.sv_store.specs.declared.rows.KeptRow.{KeptRow}
+use Rattle.sv_store.specs.Stored.{entry_of}
 use Rattle.sv_tool.specs.ReplayText.{of_table}
 
 -- one row more

@@ -1,8 +1,8 @@
--- What `check` answers to the bytes of a document of tables: `ok` with the numbers of its tables, transactions and invariants, or its refusal. Refusals
--- come in this order: too many bytes, tokens, tables, a token behind them, a table with an invariant, names and types, cycles.
+-- What `check` answers to the bytes of a document of tables and transactions: `ok` with the numbers of its tables, transactions and invariants, or its
+-- refusal. Refusals come in this order: too many bytes, tokens, tables, transactions, a token behind them, a table with an invariant, names and types, cycles.
 use Rattle.std.specs.Prelude.{◌≡◌, ℕ, ◌<◌, ◌≤◌, Bool, true, false, not, List, [], ◌∷◌, ◌++◌, length, Option, Some, None, Result, Ok, Err, codes}
 use Rattle.std.specs.Option.{option_map}
-use Rattle.std.specs.List.{find}
+use Rattle.std.specs.List.{find, flat_map}
 use Rattle.std.specs.Fmt.{decimal}
 use Rattle.sv_io.specs.Flows.{most_bytes}
 use Rattle.sv_value.specs.declared.spots.Spot.{Spot}
@@ -17,8 +17,11 @@ use Rattle.sv_app.specs.declared.refusals.Refusal.{Refusal}
 use Rattle.sv_app.specs.declared.refusals.Stop.{Stop}
 use Rattle.sv_app.specs.declared.refusals.Stop.TheVariants.{Refused as Refuse, NoMemory}
 use Rattle.sv_app.specs.Acceptance.{IsAccepted, IsRefused as IsUnaccepted}
-use Rattle.sv_app.specs.Schema.{Declaration}
+use Rattle.sv_app.specs.Schema.{Declaration, schema_of}
+use Rattle.sv_app.specs.Trees.{Transaction, transactions_of}
 use Rattle.sv_schema_reader.specs.Refused.{IsRefused, IsRead}
+use Rattle.sv_txn_reader.specs.Refused.{AreRead}
+use Rattle.sv_txn_reader.specs.Refused as txns
 use Rattle.sv_tool.specs.declared.statuses.Status.TheVariants.{Done, Refused}
 use Rattle.sv_tool.specs.Answer.{Answer, at_the_front}
 use Rattle.sv_tool.specs.Lines.{refusal_line}
@@ -40,53 +43,78 @@ has_none (a ∷ rest) = false
 abbrev pub has_invariant : Declaration → Bool
 has_invariant table = not (has_none table.invs)
 
--- what refuses tables before their names and types are looked at: a token behind them, else an invariant, at the name of its table
+-- what refuses tables and transactions before their names and types are looked at: a token behind them, else an invariant, at the name of its table
 abbrev pub early_refusal : List Declaration → List Token → Option Refusal
 early_refusal schema (token ∷ rest) = Some (record { spot = token.spot; code = Syntax })
 early_refusal schema [] = option_map (λ table. record { spot = table.name.spot; code = Syntax }) (find has_invariant schema)
 
--- tokens of tables that are accepted
-pub record AreAccepted (tokens : List Token) (schema : List Declaration) : Type 0 where
-  pub read : IsRead tokens [] schema
+-- tokens of transactions that are accepted with these tables before them
+pub record AreBehind (schema : List Declaration) (tokens : List Token) (txns : List Transaction) : Type 0 where
+  pub read : AreRead txns tokens []
   pub plain : early_refusal schema [] ≡ None
-  pub accepted : IsAccepted schema []
+  pub accepted : IsAccepted schema txns
 
--- why tables are refused that were read, with these tokens behind them
-pub data IsLater (schema : List Declaration) (rest : List Token) (refusal : Refusal) : Type 0 where
-  Early : early_refusal schema rest ≡ Some refusal → IsLater schema rest refusal
-  Unaccepted : early_refusal schema rest ≡ None → IsUnaccepted schema [] refusal → IsLater schema rest refusal
+-- tokens of tables and transactions that are accepted
+pub record AreAccepted (tokens : List Token) (schema : List Declaration) (txns : List Transaction) : Type 0 where
+  pub front : List Token
+  pub rest : List Token
+  pub whole : tokens ≡ front ++ rest
+  pub tables : IsRead front rest schema
+  pub behind : AreBehind schema rest txns
+
+-- why tables and transactions are refused that were read, with these tokens behind them
+pub data IsLater (schema : List Declaration) (transactions : List Transaction) (rest : List Token) (refusal : Refusal) : Type 0 where
+  Early : early_refusal schema rest ≡ Some refusal → IsLater schema transactions rest refusal
+  Unaccepted : early_refusal schema rest ≡ None → IsUnaccepted schema transactions refusal → IsLater schema transactions rest refusal
+
+-- why tokens behind these tables are refused
+pub data IsRefusalBehind (schema : List Declaration) (tokens : List Token) (end : Spot) (refusal : Refusal) : Type 0 where
+  UnreadTxns : txns.IsRefused tokens end refusal → IsRefusalBehind schema tokens end refusal
+  Later : (transactions : List Transaction) (rest : List Token) → AreRead transactions tokens rest → IsLater schema transactions rest refusal → IsRefusalBehind schema tokens end refusal
 
 -- why tokens are refused, where the document ends there
 pub data IsRefusal (tokens : List Token) (end : Spot) (refusal : Refusal) : Type 0 where
   Unread : IsRefused tokens end refusal → IsRefusal tokens end refusal
-  Later : (front rest : List Token) (schema : List Declaration) → tokens ≡ front ++ rest → IsRead front rest schema → IsLater schema rest refusal → IsRefusal tokens end refusal
+  Behind : (front rest : List Token) (schema : List Declaration) → tokens ≡ front ++ rest → IsRead front rest schema → IsRefusalBehind schema rest end refusal → IsRefusal tokens end refusal
 
--- so many tables are accepted, unless there was no memory
-abbrev pub IsAcceptedAs : Result App Stop → ℕ → Type 0
-IsAcceptedAs (Ok app) n = length app.tables.items ≡ n
-IsAcceptedAs (Err (Refuse refusal)) n = ⊥
-IsAcceptedAs (Err NoMemory) n = Unit {0}
+-- how many tables, transactions and invariants there are
+pub record Sizes : Type 0 where
+  pub tables : ℕ
+  pub txns : ℕ
+  pub invariants : ℕ
+
+abbrev pub sizes_of : List Declaration → List Transaction → Sizes
+sizes_of schema transactions = record { tables = length schema; txns = length transactions; invariants = length (flat_map (λ t. t.invs) schema) }
+
+abbrev pub sizes_in : App → Sizes
+sizes_in app = sizes_of (schema_of app.tables.items) (transactions_of app.txns.items)
+
+-- so many are accepted, unless there was no memory
+abbrev pub IsAcceptedAs : Result App Stop → Sizes → Type 0
+IsAcceptedAs (Ok app) sizes = sizes_in app ≡ sizes
+IsAcceptedAs (Err (Refuse refusal)) sizes = ⊥
+IsAcceptedAs (Err NoMemory) sizes = Unit {0}
 
 -- `ok TABLES TXNS INVARIANTS`
-abbrev pub ok_line : ℕ → List ℕ
-ok_line tables = codes "ok " ++ decimal tables ++ codes " 0 0\n"
+abbrev pub ok_line : Sizes → List ℕ
+ok_line sizes = codes "ok " ++ decimal sizes.tables ++ codes " " ++ decimal sizes.txns ++ codes " " ++ decimal sizes.invariants ++ codes "\n"
 
--- the bytes are a document of accepted tables
-pub record IsDocument (bytes : List ℕ) (schema : List Declaration) : Type 0 where
+-- the bytes are a document of accepted tables and transactions
+pub record IsDocument (bytes : List ℕ) (schema : List Declaration) (transactions : List Transaction) : Type 0 where
   pub short : length bytes ≤ most_bytes
   pub tokens : List Token
   pub are : lexed bytes ≡ Ok tokens
-  pub accepted : AreAccepted tokens schema
+  pub accepted : AreAccepted tokens schema transactions
 
-abbrev pub accepted_with : ℕ → Answer
-accepted_with tables = record { status = Done; text = ok_line tables }
+abbrev pub accepted_with : Sizes → Answer
+accepted_with sizes = record { status = Done; text = ok_line sizes }
 
 abbrev pub refused_with : Refusal → Answer
 refused_with refusal = record { status = Refused; text = refusal_line refusal }
 
 -- the answer to the bytes
 pub data IsCheckAnswer (bytes : List ℕ) : Answer → Type 0 where
-  Accepts : (schema : List Declaration) → IsDocument bytes schema → IsCheckAnswer bytes (accepted_with (length schema))
+  Accepts : (schema : List Declaration) (transactions : List Transaction) → IsDocument bytes schema transactions → IsCheckAnswer bytes (accepted_with (sizes_of schema transactions))
   Long : most_bytes < length bytes → IsCheckAnswer bytes (refused_with (at_the_front TooLong))
   Faulty : (fault : Fault) → length bytes ≤ most_bytes → lexed bytes ≡ Err fault → IsCheckAnswer bytes (refused_with (record { spot = spot_at bytes (place_of fault); code = code_of fault }))
   Refuses : (tokens : List Token) (refusal : Refusal) → length bytes ≤ most_bytes → lexed bytes ≡ Ok tokens → IsRefusal tokens (spot_at bytes (length bytes)) refusal

@@ -13,7 +13,7 @@ use Rattle.sv_app.specs.declared.requests.InitRow.{InitRow}
 use Rattle.sv_app.specs.declared.requests.Request.{Request}
 use Rattle.sv_app.specs.Words.{schema_words, type_words, control_words, change_words}
 use Rattle.sv_core.specs.Run.{fits64, key_of}
-use Rattle.sv_core.specs.Sound.{AreDistinct}
+use Rattle.sv_store.specs.Initial.{AreDistinct}
 use Rattle.sv_tool.specs.declared.steps.Step.{Step}
 use Rattle.sv_tool.specs.declared.steps.Step.TheVariants.{Ask, Deliver, Show}
 use Rattle.sv_tool.specs.Form.{Form, asks_in, shows_in}
@@ -157,8 +157,6 @@ AreDifferent (name ∷ names) = All (λ other. name ≢ other) names × AreDiffe
 
 -- table txn {txn} "%%" "init" {row} "%%" "replay" "sites" "=" NUMBER {step}
 pub record IsForm (tokens : List Token) (form : Form) : Type 0 where
-  pub key : List ℕ
-  pub counter : List ℕ
   pub table_part : List Token
   pub txn_part : List Token
   pub init_part : List Token
@@ -166,8 +164,8 @@ pub record IsForm (tokens : List Token) (form : Form) : Type 0 where
   pub replay_part : List Token
   pub step_part : List Token
   pub whole : tokens ≡ table_part ++ txn_part ++ init_part ++ row_part ++ replay_part ++ step_part
-  pub table : IsTable table_part form.table key counter
-  pub txns : AreMany (IsTxn form.table counter) txn_part form.txns
+  pub table : IsTable table_part form.table form.key form.counter
+  pub txns : AreMany (IsTxn form.table form.counter) txn_part form.txns
   pub init : kinds init_part ≡ Mark Percents ∷ word (codes "init") ∷ []
   pub rows : AreMany (IsRow form.table) row_part form.init
   pub replay : kinds replay_part ≡ Mark Percents ∷ word (codes "replay") ∷ word (codes "sites") ∷ Mark Eq ∷ count form.sites ∷ []

@@ -10,7 +10,8 @@ use Rattle.sv_value.specs.declared.values.Key.{Key}
 use Rattle.sv_app.specs.declared.places.Place.{Place}
 use Rattle.sv_app.specs.declared.refusals.Refusal.{Refusal}
 use Rattle.sv_app.specs.Codes.{number_of}
-use Rattle.sv_core.specs.Counters.{Row}
+use Rattle.sv_effect.specs.StampedTables.{StampedRow}
+use Rattle.sv_core.specs.Run.{counter_of}
 use Rattle.sv_core.specs.declared.entries.Outcome.TheVariants.{Done, NoRow, Range}
 use Rattle.sv_core.specs.declared.entries.Reply.{Reply}
 use Rattle.sv_core.specs.declared.entries.Reply.TheVariants.{Ran}
@@ -64,11 +65,11 @@ abbrev pub key_text : Key → List ℕ
 key_text key = codes " " ++ value_text key.first ++ second_text key.second
 
 -- `row V V`, all columns in order
-abbrev pub row_line : Place × Row → List ℕ
-row_line entry = codes "row" ++ key_text entry.0.key ++ codes " " ++ signed_decimal entry.1.count ++ codes "\n"
+abbrev pub row_line : Place × StampedRow → List ℕ
+row_line entry = codes "row" ++ key_text entry.0.key ++ codes " " ++ signed_decimal (counter_of entry.1) ++ codes "\n"
 
 -- `show SITE TABLE COUNT`, and then a line for each row
-abbrev pub show_lines : ℕ → List ℕ → List (Place × Row) → List ℕ
+abbrev pub show_lines : ℕ → List ℕ → List (Place × StampedRow) → List ℕ
 show_lines site table rows = codes "show " ++ decimal site ++ codes " " ++ table ++ codes " " ++ decimal (length rows) ++ codes "\n" ++ flat_map row_line rows
 
 -- `refused LINE:COL CODE`

@@ -15,6 +15,7 @@ use Rattle.sv_app.specs.declared.apps.Ident.{Ident}
 use Rattle.sv_tool.specs.declared.readers.Adder.{Adder}
 use Rattle.sv_app.specs.declared.refusals.Code.TheVariants.{Syntax}
 use Rattle.sv_app.specs.declared.refusals.Refusal.{Refusal}
+use Rattle.sv_app.specs.Schema.{schema_of}
 use Rattle.sv_app.specs.Words.{is_reserved}
 use Rattle.sv_app.specs.declared.refusals.Stop.{Stop}
 use Rattle.sv_app.specs.declared.refusals.Stop.TheVariants.{Refused, NoMemory}
@@ -22,14 +23,14 @@ use Rattle.sv_app.specs.declared.requests.Arg.TheVariants.{Int as IntArg}
 use Rattle.sv_app.specs.declared.requests.InitRow.{InitRow}
 use Rattle.sv_app.specs.declared.requests.Request.{Request}
 use Rattle.sv_core.specs.Run.{fits64, key_of}
-use Rattle.sv_core.specs.TablesOfCut.{is_place, init_place}
+use Rattle.sv_effect.specs.TablesOfCut.{is_place, init_place}
 use Rattle.sv_tool.specs.declared.readers.Pair.{Pair}
 use Rattle.sv_tool.specs.declared.readers.Parts.{Parts}
 use Rattle.sv_tool.specs.declared.readers.Schema.{Schema}
 use Rattle.sv_tool.specs.declared.steps.Replay.{Replay}
 use Rattle.sv_tool.specs.declared.steps.Step.{Step}
 use Rattle.sv_tool.specs.declared.steps.Step.TheVariants.{Ask, Deliver, Show}
-use Rattle.sv_tool.specs.Form.{Form, asks_in, shows_in}
+use Rattle.sv_tool.specs.Form.{Form, counter_table, asks_in, shows_in}
 use Rattle.sv_tool.specs.Grammar.{word}
 
 abbrev pub Read : Type 0 → Type 0
@@ -146,7 +147,7 @@ table_at tokens =
     after (Mark At ∷ word (codes "UOSET") ∷ word (codes "create") ∷ word (codes "table") ∷ []) tokens λ r1. ident_at 0 r1 >>= λ table r2.
     after (Mark LeftParen ∷ []) r2 λ r3. name_at r3 >>= λ key r4. after (word (codes "int") ∷ Mark Comma ∷ []) r4 λ r5. name_at r5 >>= λ counter r6.
     after (word (codes "int") ∷ Mark At ∷ word (codes "NUMDELTA") ∷ Mark Comma ∷ word (codes "primary") ∷ word (codes "key") ∷ Mark LeftParen ∷ Name key ∷ Mark RightParen ∷ Mark RightParen ∷ Mark Semi ∷ []) r6 λ r7.
-    if bytes_eq key counter then None else Some (record { table = table; counter = counter }, r7)
+    if bytes_eq key counter then None else Some (record { table = table; key = key; counter = counter }, r7)
 
 unfoldable pub txn_at : Schema → ℕ → List Token → Read Adder
 txn_at schema num tokens =
@@ -250,11 +251,13 @@ parts_at tokens =
     after (Mark Percents ∷ word (codes "init") ∷ []) r2 λ r3. rows_at schema.table.name r3 >>= λ init r4.
     after (Mark Percents ∷ word (codes "replay") ∷ word (codes "sites") ∷ Mark Eq ∷ []) r4 λ r5. number_at 1 8 r5 >>= λ sites r6.
     steps_at schema.table.name txns sites r6 >>= λ steps r7.
-    Some (record { table = schema.table; txns = txns; init = init; sites = sites; steps = steps }, r7)
+    Some (record { schema = schema; txns = txns; init = init; sites = sites; steps = steps }, r7)
 
 abbrev pub form_of_parts : Parts → Form
 form_of_parts parts = record {
-  table = parts.table.name;
+  table = parts.schema.table.name;
+  key = parts.schema.key;
+  counter = parts.schema.counter;
   txns = map (λ txn. txn.name.name) parts.txns;
   init = parts.init;
   sites = parts.sites;
@@ -263,7 +266,7 @@ form_of_parts parts = record {
 
 -- a replay's table and transactions are those of these parts
 pub record HasApp (replay : Replay) (parts : Parts) : Type 0 where
-  pub tables : map (λ table. table.name) replay.doc.app.tables.items ≡ parts.table ∷ []
+  pub tables : schema_of replay.doc.app.tables.items ≡ counter_table parts.schema.table.name parts.schema.key parts.schema.counter ∷ []
   pub txns : map (λ txn. txn.name) replay.doc.app.txns.items ≡ map (λ adder. adder.name) parts.txns
 
 abbrev pub whole_form : Read Parts → Option Form

@@ -5,7 +5,7 @@ use Rattle.std.specs.FinMap.{entries, get}
 use Rattle.std.specs.FinMap.Entries.{is_sorted}
 use Rattle.sv_app.specs.declared.places.Place.{Place}
 use Rattle.sv_app.specs.Tables.{place_cmp}
-use Rattle.sv_core.specs.Counters.{Row, Tables}
+use Rattle.sv_effect.specs.StampedTables.{StampedRow, StampedTables}
 use Rattle.sv_core.specs.Document.{Document}
 use Rattle.sv_core.specs.History.{History, tables_at}
 use Rattle.sv_core.specs.World.{answer_due, delivered, after_delivery}
@@ -15,17 +15,17 @@ use Rattle.sv_tool.specs.Form.{Form, document_of_form}
 use Rattle.sv_tool.specs.Lines.{entry_line, delivered_line, show_lines}
 
 -- of these rows, those of the table of this number
-abbrev pub of_table : ℕ → List (Place × Row) → List (Place × Row)
+abbrev pub of_table : ℕ → List (Place × StampedRow) → List (Place × StampedRow)
 of_table table rows = filter (λ entry. entry.0.table == table) rows
 
 -- the rows that are kept in the table of this number
-abbrev pub rows_of : ℕ → Tables → List (Place × Row)
+abbrev pub rows_of : ℕ → StampedTables → List (Place × StampedRow)
 rows_of table t = of_table table (entries t)
 
 -- what the rows of a table are: their keys rise, and they are exactly the rows that are kept there
-pub record AreRowsOf (table : ℕ) (t : Tables) (rows : List (Place × Row)) : Type 0 where
+pub record AreRowsOf (table : ℕ) (t : StampedTables) (rows : List (Place × StampedRow)) : Type 0 where
   pub rising : IsTrue (is_sorted place_cmp rows)
-  pub members : (place : Place) (row : Row) → Contains rows (place, row) ↔ ((place.table ≡ table) × (get t place ≡ Some row))
+  pub members : (place : Place) (row : StampedRow) → Contains rows (place, row) ↔ ((place.table ≡ table) × (get t place ≡ Some row))
 
 -- the line, or the lines, of a step
 abbrev pub step_text : Document → List ℕ → History → Step → List ℕ

@@ -12,7 +12,8 @@ ghost use Rattle.sv_tool.specs.ReplayText.{steps_text};
 ghost use Rattle.sv_tool.specs.ReadDocument.{table_name, ReadsAs, said_by};
 ghost use Rattle.sv_tool.specs.CanMake.{CanMakeAll};
 ghost use Rattle.sv_app.specs.Schema.{Declaration};
-ghost use Rattle.sv_tool.specs.CheckText.{IsDocument, accepted_with};
+ghost use Rattle.sv_app.specs.Trees.{Transaction};
+ghost use Rattle.sv_tool.specs.CheckText.{IsDocument, sizes_of, accepted_with};
 ghost use Rattle.sv_tool.specs.Commands.{IsAnswerOf};
 ghost use Rattle.sv_tool.specs.declared.words.Command.TheVariants.{Check};
 ghost use Rattle.sv_tool.specs.declared.statuses.Status.TheVariants.{Done, Refused};
@@ -157,7 +158,7 @@ fn answer_to(alloc: Global, bytes: &[u8]) -> Result<Answer, NoMemory>
 fn answer_of(alloc: Global, command: Command, bytes: &[u8]) -> Result<Answer, NoMemory>
     requires { length bytes.now ≤ most_bytes }
     ensures answer { IfOk result (λ answer. IsAnswerOf command bytes.now (said_by answer)) }
-    ensures accepted { (schema : List Declaration) → command ≡ Check → IsDocument bytes.now schema → IfOk result (λ answer. said_by answer ≡ accepted_with (length schema)) }
+    ensures accepted { (schema : List Declaration) (txns : List Transaction) → command ≡ Check → IsDocument bytes.now schema txns → IfOk result (λ answer. said_by answer ≡ accepted_with (sizes_of schema txns)) }
 {
     match command {
         Command::Replay => answer_to(alloc, bytes),
@@ -177,8 +178,8 @@ pub fn answer_from<S: Source>(
     input: &mut S,
 ) -> Result<Answer, Halt>
     ensures answer { IfOk result (λ answer. IfSome (S.left input.old) (λ bytes. IsAnswerOf command bytes (said_by answer))) }
-    ensures accepted { IfOk result (λ answer. IfSome (S.left input.old) (λ bytes. (schema : List Declaration) → command ≡ Check → IsDocument bytes schema
-        → said_by answer ≡ accepted_with (length schema))) }
+    ensures accepted { IfOk result (λ answer. IfSome (S.left input.old) (λ bytes. (schema : List Declaration) (txns : List Transaction) → command ≡ Check → IsDocument bytes schema txns
+        → said_by answer ≡ accepted_with (sizes_of schema txns))) }
     ensures status { IfOk result (λ answer. (answer.status ≡ Done) ⊎ (answer.status ≡ Refused)) }
     ensures end { IfOk result (λ answer. answer.status ≡ Done → IsAtEnd (S.left input.new)) }
     ensures failed { IsErrOf result Halt.SourceFailed → Rose (S.faults input.old) (S.faults input.new) }

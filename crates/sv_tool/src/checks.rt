@@ -1,4 +1,5 @@
-ghost use Rattle.std.specs.Prelude.{◌≡◌, ◌≤◌, [], ℕ, List, None, Err, IfOk, MatchOption, length};
+ghost use Rattle.std.specs.Prelude.{◌≡◌, ◌≤◌, [], List, None, Err, IfOk, MatchOption, length, drop};
+ghost use Rattle.std.specs.List.{flat_map};
 ghost use Rattle.sv_io.specs.Flows.{most_bytes};
 ghost use Rattle.sv_app.specs.declared.refusals.Refusal.{Refusal as RefusalValue};
 ghost use Rattle.sv_app.specs.declared.refusals.Stop.TheVariants.{Refused, NoMemory as Ends};
@@ -8,16 +9,19 @@ ghost use Rattle.sv_lex.specs.Spots.{spot_at};
 ghost use Rattle.sv_lex.specs.Standing.{place_of};
 ghost use Rattle.sv_app.specs.Acceptance.{IsAccepted};
 ghost use Rattle.sv_app.specs.Conditions.{KeepsLimits};
-ghost use Rattle.sv_tool.specs.CheckText.{has_invariant, early_refusal, AreAccepted, IsLater, IsRefusal, IsAcceptedAs, code_of, IsDocument, accepted_with, refused_with, IsCheckAnswer};
+ghost use Rattle.sv_app.specs.Trees.{Transaction, transactions_of};
+ghost use Rattle.sv_app.specs.TxnConditions.{KeepsTxnLimits};
+ghost use Rattle.sv_tool.specs.CheckText.{has_invariant, early_refusal, AreBehind, AreAccepted, IsLater, IsRefusalBehind, IsRefusal, sizes_of, sizes_in, IsAcceptedAs, code_of, IsDocument, accepted_with, refused_with, IsCheckAnswer};
 ghost use Rattle.sv_tool.specs.ReadDocument.{said_by};
 
 use crate::answers::{Answer, refusal_answer};
 use crate::statuses::Status;
-use crate::texts::put_accepted;
+use crate::texts::{Accepted, put_accepted};
 use std::alloc::Global;
-use sv_app::{App, Code, Refusal, Stop, Table};
+use sv_app::{App, Code, Refusal, Stop, Table, Txn};
 use sv_lex::{LexStop, Token, TokenKind, lex, spot_of};
 use sv_schema_reader::read_schema;
+use sv_txn_reader::read_txns;
 use sv_typing::accept;
 use sv_value::{NoMemory, Spot};
 
@@ -46,7 +50,8 @@ fn invariant_refusal(tables: &[Table]) -> Option<Refusal>
     }
 }
 
-/// What refuses tables before their names and types are looked at: a token behind them, or else an invariant.
+/// What refuses tables and transactions before their names and types are looked at: a token behind them, or else an
+/// invariant.
 fn early_refusal(tables: &[Table], rest: &[Token]) -> Option<Refusal>
     ensures { result ≡ early_refusal (schema_of tables.now) rest.now }
 {
@@ -59,30 +64,58 @@ fn early_refusal(tables: &[Table], rest: &[Token]) -> Option<Refusal>
     }
 }
 
-/// The application of tables that were read, with these tokens behind them.
-fn accept_read(alloc: Global, tables: Vec<Table>, rest: &[Token]) -> Result<App, Stop>
-    requires { KeepsLimits (schema_of tables.items) }
+/// The application of tables and transactions that were read, with these tokens behind them.
+fn accept_read(
+    alloc: Global,
+    tables: Vec<Table>,
+    txns: Vec<Txn>,
+    rest: &[Token],
+) -> Result<App, Stop>
+    requires limits { KeepsLimits (schema_of tables.items) }
+    requires small { KeepsTxnLimits (transactions_of txns.items) }
     ensures plain { IfOk result (λ app. early_refusal (schema_of tables.items) rest.now ≡ None) }
-    ensures accepted { IfOk result (λ app. IsAccepted (schema_of tables.items) []) }
-    ensures count { IfOk result (λ app. length app.tables.items ≡ length (schema_of tables.items)) }
-    ensures refused { (refusal : RefusalValue) → result ≡ Err (Refused refusal) → IsLater (schema_of tables.items) rest.now refusal }
-    ensures all { early_refusal (schema_of tables.items) rest.now ≡ None → IsAccepted (schema_of tables.items) [] → IsAcceptedAs result (length (schema_of tables.items)) }
+    ensures accepted { IfOk result (λ app. IsAccepted (schema_of tables.items) (transactions_of txns.items)) }
+    ensures sizes { IfOk result (λ app. sizes_in app ≡ sizes_of (schema_of tables.items) (transactions_of txns.items)) }
+    ensures refused { (refusal : RefusalValue) → result ≡ Err (Refused refusal) → IsLater (schema_of tables.items) (transactions_of txns.items) rest.now refusal }
+    ensures all { early_refusal (schema_of tables.items) rest.now ≡ None → IsAccepted (schema_of tables.items) (transactions_of txns.items)
+        → IsAcceptedAs result (sizes_of (schema_of tables.items) (transactions_of txns.items)) }
 {
     let refusal = early_refusal(&tables, rest);
     match refusal {
         Some(refusal) => Err(Stop::Refused(refusal)),
-        None => accept(alloc, tables, Vec::new(alloc)),
+        None => accept(alloc, tables, txns),
     }
 }
 
-/// The application of these tokens, which must be tables, up to the end of the document.
+/// The application of these tables and the tokens from the place on, which must be transactions, up to the end of the
+/// document.
+fn check_behind(
+    alloc: Global,
+    tables: Vec<Table>,
+    tokens: &[Token],
+    end: Spot,
+    at: usize,
+) -> Result<App, Stop>
+    requires place { at ≤ length tokens.now }
+    requires limits { KeepsLimits (schema_of tables.items) }
+    ensures accepted { IfOk result (λ app. (txns : List Transaction) × AreBehind (schema_of tables.items) (drop at tokens.now) txns × (sizes_in app ≡ sizes_of (schema_of tables.items) txns)) }
+    ensures refused { (refusal : RefusalValue) → result ≡ Err (Refused refusal) → IsRefusalBehind (schema_of tables.items) (drop at tokens.now) end refusal }
+    ensures all { (txns : List Transaction) → AreBehind (schema_of tables.items) (drop at tokens.now) txns → IsAcceptedAs result (sizes_of (schema_of tables.items) txns) }
+{
+    match read_txns(alloc, tokens, end, at) {
+        Ok((txns, behind)) => accept_read(alloc, tables, txns, &tokens[behind..]),
+        Err(stop) => Err(stop),
+    }
+}
+
+/// The application of these tokens, which must be tables and transactions, up to the end of the document.
 pub fn check_tokens(alloc: Global, tokens: &[Token], end: Spot) -> Result<App, Stop>
-    ensures accepted { IfOk result (λ app. (schema : List Declaration) × AreAccepted tokens.now schema × (length app.tables.items ≡ length schema)) }
+    ensures accepted { IfOk result (λ app. (schema : List Declaration) × (txns : List Transaction) × AreAccepted tokens.now schema txns × (sizes_in app ≡ sizes_of schema txns)) }
     ensures refused { (refusal : RefusalValue) → result ≡ Err (Refused refusal) → IsRefusal tokens.now end refusal }
-    ensures all { (schema : List Declaration) → AreAccepted tokens.now schema → IsAcceptedAs result (length schema) }
+    ensures all { (schema : List Declaration) (txns : List Transaction) → AreAccepted tokens.now schema txns → IsAcceptedAs result (sizes_of schema txns) }
 {
     match read_schema(alloc, tokens, end, 0) {
-        Ok((tables, at)) => accept_read(alloc, tables, &tokens[at..]),
+        Ok((tables, at)) => check_behind(alloc, tables, tokens, end, at),
         Err(stop) => Err(stop),
     }
 }
@@ -125,13 +158,13 @@ fn stop_of(bytes: &[u8], stop: LexStop) -> Stop
     }
 }
 
-/// The application of a document of tables.
+/// The application of a document of tables and transactions.
 #[tactic(auto, using(crate::proofs::CheckLaws::documents))]
 fn check_bytes(alloc: Global, bytes: &[u8]) -> Result<App, Stop>
     requires { length bytes.now ≤ most_bytes }
-    ensures accepted { IfOk result (λ app. (schema : List Declaration) × IsDocument bytes.now schema × (length app.tables.items ≡ length schema)) }
+    ensures accepted { IfOk result (λ app. (schema : List Declaration) × (txns : List Transaction) × IsDocument bytes.now schema txns × (sizes_in app ≡ sizes_of schema txns)) }
     ensures refused { (refusal : RefusalValue) → result ≡ Err (Refused refusal) → IsCheckAnswer bytes.now (refused_with refusal) }
-    ensures all { (schema : List Declaration) → IsDocument bytes.now schema → IsAcceptedAs result (length schema) }
+    ensures all { (schema : List Declaration) (txns : List Transaction) → IsDocument bytes.now schema txns → IsAcceptedAs result (sizes_of schema txns) }
 {
     let _kind: Option<TokenKind> = None;
     match lex(alloc, bytes) {
@@ -140,12 +173,31 @@ fn check_bytes(alloc: Global, bytes: &[u8]) -> Result<App, Stop>
     }
 }
 
-/// The line of a document whose tables are accepted.
-fn accepted_answer(alloc: Global, tables: usize) -> Result<Answer, NoMemory>
-    ensures { IfOk result (λ answer. said_by answer ≡ accepted_with tables) }
+/// How many invariants the tables have.
+fn invariants_of(tables: &[Table]) -> usize
+    requires { length (flat_map (λ t. t.invs) (schema_of tables.now)) ≤ 256 }
+    ensures { result ≡ length (flat_map (λ t. t.invs) (schema_of tables.now)) }
+{
+    match tables {
+        [] => 0,
+        [table, others @ ..] => table.invs.len() + invariants_of(others),
+    }
+}
+
+/// The line of a document that is accepted.
+fn accepted_answer(alloc: Global, app: &App) -> Result<Answer, NoMemory>
+    requires { (sizes_in app.now).invariants ≤ 256 }
+    ensures { IfOk result (λ answer. said_by answer ≡ accepted_with (sizes_in app.now)) }
 {
     let mut text = Vec::new(alloc);
-    put_accepted(&mut text, tables as u64)?;
+    put_accepted(
+        &mut text,
+        &Accepted {
+            tables: app.tables.len() as u64,
+            txns: app.txns.len() as u64,
+            invariants: invariants_of(&app.tables) as u64,
+        },
+    )?;
     Ok(Answer {
         status: Status::Done,
         text,
@@ -156,10 +208,10 @@ fn accepted_answer(alloc: Global, tables: usize) -> Result<Answer, NoMemory>
 pub fn check_answer(alloc: Global, bytes: &[u8]) -> Result<Answer, NoMemory>
     requires { length bytes.now ≤ most_bytes }
     ensures answer { IfOk result (λ answer. IsCheckAnswer bytes.now (said_by answer)) }
-    ensures accepted { (schema : List Declaration) → IsDocument bytes.now schema → IfOk result (λ answer. said_by answer ≡ accepted_with (length schema)) }
+    ensures accepted { (schema : List Declaration) (txns : List Transaction) → IsDocument bytes.now schema txns → IfOk result (λ answer. said_by answer ≡ accepted_with (sizes_of schema txns)) }
 {
     match check_bytes(alloc, bytes) {
-        Ok(app) => accepted_answer(alloc, app.tables.len()),
+        Ok(app) => accepted_answer(alloc, &app),
         Err(Stop::Refused(refusal)) => refusal_answer(alloc, &refusal),
         Err(Stop::NoMemory) => Err(NoMemory),
     }

@@ -1,8 +1,8 @@
 ghost use Rattle.std.specs.Prelude.{ℕ};
-ghost use Rattle.sv_core.specs.Counters.{Tables};
+ghost use Rattle.sv_effect.specs.StampedTables.{StampedTables};
 ghost use Rattle.sv_tool.specs.ReplayText.{rows_of, AreRowsOf};
 
 /// A law: the rows that a `show` prints of a table rise by key, and are exactly those that are kept there.
 pub fn rows_are_listed()
-    ensures { (table : ℕ) (t : Tables) → AreRowsOf table t (rows_of table t) }
+    ensures { (table : ℕ) (t : StampedTables) → AreRowsOf table t (rows_of table t) }
 {}

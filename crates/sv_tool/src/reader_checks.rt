@@ -1,7 +1,7 @@
 ghost use Rattle.std.specs.Prelude.{◌≡◌};
 ghost use Rattle.sv_tool.specs.Form.{asks_in, shows_in};
 ghost use Rattle.sv_tool.specs.Reading.{has_name, names_differ, is_same_place, has_place, places_differ};
-ghost use Rattle.sv_core.specs.TablesOfCut.{init_place};
+ghost use Rattle.sv_effect.specs.TablesOfCut.{init_place};
 
 use crate::readers::Adder;
 use crate::steps::Step;

@@ -34,7 +34,7 @@ fn row_of(alloc: Global, spot: Spot, pair: &Pair) -> Result<InitRow, NoMemory>
 impl Reader<'_> {
     ghost use Rattle.sv_tool.specs.Reading.{Reads, table_at, txn_at, txns_at, row_at, rows_at};
 
-    /// Reads a table: the names of it and of its counter.
+    /// Reads a table: the names of it, of its key and of its counter.
     #[tactic(auto, unfolding(crate::specs::Reading::table_at, crate::specs::Reading::after))]
     pub fn table(&mut self) -> Result<Schema, Stop>
         ensures { Reads result self.new.rest.now (table_at self.old.rest.now) }
@@ -63,7 +63,11 @@ impl Reader<'_> {
         if key == counter {
             return Err(refused());
         }
-        Ok(Schema { table, counter })
+        Ok(Schema {
+            table,
+            key,
+            counter,
+        })
     }
 
     /// Reads a transaction over the table, which is the one of this number.

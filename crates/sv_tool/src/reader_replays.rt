@@ -1,16 +1,17 @@
 ghost use Rattle.std.specs.Prelude.{map, ◌≡◌, ◌≤◌, IfOk};
-ghost use Rattle.sv_tool.specs.Form.{Describes, asks_in};
+ghost use Rattle.sv_app.specs.Schema.{declaration_of};
+ghost use Rattle.sv_tool.specs.Form.{Describes, bare, counter_table, asks_in};
 ghost use Rattle.sv_tool.specs.Reading.{is_whole, form_of_parts, HasApp};
 ghost use Rattle.sv_tool.specs.Replays.{Answers};
 
 use crate::reader_checks::{asks_in, names_differ, places_differ, shows_in};
-use crate::readers::{Adder, Parts, Reader, refused};
+use crate::readers::{Adder, Parts, Reader, Schema, refused};
 use crate::steps::Replay;
 use std::alloc::Global;
-use sv_app::{App, Ident, Kind, Stop, Table, Txn};
+use sv_app::{App, Column, Ident, Kind, Merge, Stop, Table, Txn, Ty};
 use sv_core::Doc;
 use sv_lex::{Mark, Token};
-use sv_value::{NoMemory, Packet};
+use sv_value::{Name, NoMemory, Packet, Spot};
 
 /// The most requests that a document may ask for.
 const MOST_ASKS: usize = 8_192;
@@ -39,7 +40,7 @@ impl Reader<'_> {
         let sites = self.number(1, 8)? as u8;
         let steps = self.steps(alloc, &schema.table.name, txns.items(), sites)?;
         Ok(Parts {
-            table: schema.table,
+            schema,
             txns,
             init,
             sites,
@@ -60,18 +61,50 @@ fn is_whole(rest: &[Token], parts: &Parts) -> bool
         && shows_in(parts.steps.items()) <= MOST_SHOWS
 }
 
-/// The one table. Its columns aren't listed, since a world of this form keeps one counter for each row.
-fn counter_table(alloc: Global, name: Ident) -> Table
-    ensures { result.name ≡ name }
+/// A name with its number. No place in the document is kept, since nothing is refused of the table after it was read.
+fn bare(name: Name, num: u16) -> Ident
+    ensures { result ≡ bare name num }
 {
-    Table {
+    Ident {
         name,
+        spot: Spot { line: 1, col: 1 },
+        num,
+    }
+}
+
+/// The two columns: a key, and a counter.
+fn counter_columns(alloc: Global, schema: &Schema) -> Result<Vec<Column>, NoMemory>
+    ensures { IfOk result (λ columns. columns.items ≡ (counter_table schema.now.table.name schema.now.key schema.now.counter).columns) }
+{
+    let mut columns = Vec::new(alloc);
+    columns.push(Column {
+        name: bare(schema.key, 0),
+        ty: Ty::Int,
+        merge: Merge::Plain,
+    })?;
+    columns.push(Column {
+        name: bare(schema.counter, 1),
+        ty: Ty::Int,
+        merge: Merge::NumDelta,
+    })?;
+    Ok(columns)
+}
+
+/// The one table.
+fn counter_table(alloc: Global, schema: &Schema) -> Result<Table, NoMemory>
+    ensures { IfOk result (λ table. declaration_of table ≡ counter_table schema.now.table.name schema.now.key schema.now.counter) }
+{
+    let columns = counter_columns(alloc, schema)?;
+    let mut key = Vec::new(alloc);
+    key.push(bare(schema.key, 0))?;
+    Ok(Table {
+        name: bare(schema.table.name, 0),
         kind: Kind::Uoset,
-        columns: Vec::new(alloc),
-        key: Vec::new(alloc),
+        columns,
+        key,
         second_key: None,
         invs: Vec::new(alloc),
-    }
+    })
 }
 
 /// The transactions of these names. Their statements aren't listed, since the form says what they do.
@@ -99,7 +132,7 @@ fn replay_of(alloc: Global, parts: Parts) -> Result<Replay, NoMemory>
     let _named: Option<Packet> = None;
     let asks = asks_in(parts.steps.items()) as u32;
     let mut tables = Vec::new(alloc);
-    tables.push(counter_table(alloc, parts.table))?;
+    tables.push(counter_table(alloc, &parts.schema)?)?;
     let txns = txns_of(alloc, parts.txns.items())?;
     Ok(Replay {
         doc: Doc {

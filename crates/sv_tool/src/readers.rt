@@ -7,10 +7,11 @@ use sv_app::{Code, Ident, InitRow, Refusal, Stop, is_reserved};
 use sv_lex::{Mark, Token, TokenKind};
 use sv_value::{List, Name, Spot};
 
-/// The names of a table and its counter.
+/// The names of a table, its key and its counter.
 #[derive(Clone, Copy, Debug)]
 pub struct Schema {
     pub table: Ident,
+    pub key: Name,
     pub counter: Name,
 }
 
@@ -23,7 +24,7 @@ pub struct Adder {
 /// What a document holds, in order.
 #[derive(Debug, Drop)]
 pub struct Parts {
-    pub table: Ident,
+    pub schema: Schema,
     pub txns: List<Adder>,
     pub init: List<InitRow>,
     pub sites: u8,

@@ -1,11 +1,11 @@
 ghost use Rattle.std.specs.Prelude.{◌≡◌, ◌++◌, ◌∷◌, [], OnOk, length, map};
 ghost use Rattle.std.specs.List.{flat_map};
-ghost use Rattle.sv_core.specs.Rows.{entry_of};
+ghost use Rattle.sv_store.specs.Stored.{entry_of};
 ghost use Rattle.sv_tool.specs.Lines.{row_line, show_lines};
 ghost use Rattle.sv_tool.specs.ReplayText.{of_table};
 
 use crate::texts::{put_bytes, put_count, put_row};
-use sv_core::KeptRow;
+use sv_store::KeptRow;
 use sv_value::{Name, NoMemory, Site};
 
 /// How many of the rows are of the table.

@@ -1,12 +1,14 @@
 ghost use Rattle.std.specs.Prelude.{◌≡◌, ◌++◌, OnOk, length, filter, ◌==◌, pos};
 ghost use Rattle.std.specs.Fmt.{decimal, signed_decimal};
-ghost use Rattle.sv_core.specs.Rows.{entry_of};
+ghost use Rattle.sv_store.specs.Stored.{entry_of};
 ghost use Rattle.sv_tool.specs.CheckText.{ok_line};
+ghost use Rattle.sv_tool.specs.Accepted.{sizes_said};
 ghost use Rattle.sv_tool.specs.Lines.{packet_text, label_text, reply_text, answer_line, delivered_line, value_text, second_text, key_text, row_line, refusal_line};
 
 use itoa::Buffer;
 use sv_app::Refusal;
-use sv_core::{Delivered, KeptRow, Outcome, Reply};
+use sv_core::{Delivered, Outcome, Reply, counter_of};
+use sv_store::KeptRow;
 use sv_value::{Key, NoMemory, Packet, Val, put_int};
 
 /// Appends the bytes.
@@ -25,14 +27,26 @@ pub fn put_count(out: &mut Vec<u8>, n: u64) -> Result<(), NoMemory>
     put_bytes(out, buffer.format(n).as_bytes())
 }
 
-/// Appends the line of so many accepted tables, without transactions and invariants.
+/// How many tables, transactions and invariants were accepted.
+#[derive(Clone, Copy, Debug)]
+pub struct Accepted {
+    pub tables: u64,
+    pub txns: u64,
+    pub invariants: u64,
+}
+
+/// Appends the line of a document that is accepted.
 #[tactic(auto, using(crate::proofs::AppendLaws::appends))]
-pub fn put_accepted(out: &mut Vec<u8>, tables: u64) -> Result<(), NoMemory>
-    ensures { OnOk result (out.new.items ≡ out.old.items ++ ok_line tables) }
+pub fn put_accepted(out: &mut Vec<u8>, accepted: &Accepted) -> Result<(), NoMemory>
+    ensures { OnOk result (out.new.items ≡ out.old.items ++ ok_line (sizes_said accepted.now)) }
 {
     put_bytes(out, b"ok ")?;
-    put_count(out, tables)?;
-    put_bytes(out, b" 0 0\n")
+    put_count(out, accepted.tables)?;
+    put_bytes(out, b" ")?;
+    put_count(out, accepted.txns)?;
+    put_bytes(out, b" ")?;
+    put_count(out, accepted.invariants)?;
+    put_bytes(out, b"\n")
 }
 
 /// Appends the name of a packet.
@@ -175,7 +189,7 @@ pub fn put_row(out: &mut Vec<u8>, row: &KeptRow) -> Result<(), NoMemory>
     put_bytes(out, b"row")?;
     put_key(out, &row.place.key)?;
     put_bytes(out, b" ")?;
-    put_int(out, row.count)?;
+    put_int(out, counter_of(&row.row))?;
     put_bytes(out, b"\n")
 }
 

@@ -7,8 +7,9 @@ ghost use Rattle.sv_tool.specs.Form.{document_of_form};
 ghost use Rattle.sv_tool.specs.ReplayText.{replay_history};
 ghost use Rattle.sv_tool.specs.Statuses.{status_number};
 ghost use Rattle.sv_app.specs.Schema.{Declaration};
+ghost use Rattle.sv_app.specs.Trees.{Transaction};
 ghost use Rattle.sv_tool.specs.Answer.{IsReplay, Answer, answer_to, form_in};
-ghost use Rattle.sv_tool.specs.CheckText.{IsCheck, IsDocument, IsCheckAnswer, ok_line};
+ghost use Rattle.sv_tool.specs.CheckText.{IsCheck, IsDocument, IsCheckAnswer, sizes_of, ok_line};
 ghost use Rattle.sv_tool.specs.Commands.{IsCommand};
 
 use crate::answers::{Halt, answer_from};
@@ -55,9 +56,9 @@ pub fn plain<S: Source, K: Sink>(alloc: Global, words: &Words, input: &mut S, ou
     ensures complete { IsReplay words.now → IfSome (S.left input.old) (λ bytes. IsOk (form_in bytes)
         → ¬ Rose (S.faults input.old) (S.faults input.new) → ¬ Rose (K.faults out.old) (K.faults out.new)
         → ((result ≡ 0) × Grew (K.taken out.old) (K.taken out.new) (answer_to bytes).text) ⊎ ((result ≡ 5) × (out.new ≡ out.old))) }
-    ensures check_complete { IsCheck words.now → IfSome (S.left input.old) (λ bytes. (schema : List Declaration) → IsDocument bytes schema
+    ensures check_complete { IsCheck words.now → IfSome (S.left input.old) (λ bytes. (schema : List Declaration) (txns : List Transaction) → IsDocument bytes schema txns
         → ¬ Rose (S.faults input.old) (S.faults input.new) → ¬ Rose (K.faults out.old) (K.faults out.new)
-        → ((result ≡ 0) × Grew (K.taken out.old) (K.taken out.new) (ok_line (length schema))) ⊎ ((result ≡ 5) × (out.new ≡ out.old))) }
+        → ((result ≡ 0) × Grew (K.taken out.old) (K.taken out.new) (ok_line (sizes_of schema txns))) ⊎ ((result ≡ 5) × (out.new ≡ out.old))) }
 {
     let Some(command) = words.command() else {
         return match write_all(out, b"usage\n") {
@@ -108,9 +109,9 @@ pub fn top<R: Threads + Wait + Sync, S: Source, K: Sink>(
     ensures complete { IsReplay words.now → IfSome (S.left input.old) (λ bytes. IsOk (form_in bytes)
         → ¬ Rose (S.faults input.old) (S.faults input.new) → ¬ Rose (K.faults out.old) (K.faults out.new)
         → ((result ≡ 0) × Grew (K.taken out.old) (K.taken out.new) (answer_to bytes).text) ⊎ ((result ≡ 5) × (out.new ≡ out.old))) }
-    ensures check_complete { IsCheck words.now → IfSome (S.left input.old) (λ bytes. (schema : List Declaration) → IsDocument bytes schema
+    ensures check_complete { IsCheck words.now → IfSome (S.left input.old) (λ bytes. (schema : List Declaration) (txns : List Transaction) → IsDocument bytes schema txns
         → ¬ Rose (S.faults input.old) (S.faults input.new) → ¬ Rose (K.faults out.old) (K.faults out.new)
-        → ((result ≡ 0) × Grew (K.taken out.old) (K.taken out.new) (ok_line (length schema))) ⊎ ((result ≡ 5) × (out.new ≡ out.old))) }
+        → ((result ≡ 0) × Grew (K.taken out.old) (K.taken out.new) (ok_line (sizes_of schema txns))) ⊎ ((result ≡ 5) × (out.new ≡ out.old))) }
 {
     plain(alloc, words, input, out)
 }

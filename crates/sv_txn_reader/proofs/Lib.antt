@@ -1,3 +1,14 @@
+pub mod ChainLaws
+pub mod ExprLaws
+pub mod FactorLaws
 pub mod Laws
+pub mod LeafLaws
 pub mod LimitLaws
+pub mod ListLaws
+pub mod LiteralLaws
+pub mod OperatorLaws
 pub mod PieceLaws
+pub mod RoomLaws
+pub mod TermLaws
+pub mod TestLaws
+pub mod TestRoomLaws

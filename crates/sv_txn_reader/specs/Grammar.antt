@@ -175,6 +175,10 @@ keys free (e ∷ []) = expr free e
 keys free (e ∷ f ∷ []) = expr free e · mark marks.Comma · expr free f
 keys free _ = λ _ _. ⊥
 
+-- "[" keys "]"
+abbrev pub index : ℕ → List Term → List Token → List Token → Type 0
+index free k = mark marks.LeftBracket · keys free k · mark marks.RightBracket
+
 -- NAME "=" expr
 abbrev pub setting : ℕ → Ident × Term → List Token → List Token → Type 0
 setting free (x, e) = name x · mark marks.Eq · expr free e
@@ -203,9 +207,9 @@ otherwise b block tokens rest = ((b ≡ Finish) × nothing tokens rest) ⊎ (wor
 abbrev mutual
   -- what is written of a statement
   pub command : ℕ → Standing → Command → List Token → List Token → Type 0
-  command free at (Declare x e) = word (codes "let") · limit free 32 (suc at.before.variables) · name x · mark marks.Eq · expr free e · mark marks.Semi
+  command free at (Declare x e) = word (codes "let") · limit free 32 (suc at.before.variables) · setting free (x, e) · mark marks.Semi
   command free at (Assign x e) = setting free (x, e) · mark marks.Semi
-  command free at (Fetch r t k) = word (codes "get") · name r · mark marks.Eq · name t · mark marks.LeftBracket · keys free k · mark marks.RightBracket · mark marks.Semi
+  command free at (Fetch r t k) = word (codes "get") · name r · mark marks.Eq · name t · index free k · mark marks.Semi
   command free at (Choose t ys ns) =
       word (codes "if") · cond free t · braced free at (statements free (deeper at) ys) · otherwise ns (braced free at (statements free (deeper (behind at ys)) ns))
   command free at (ForRows r t c body) =
@@ -213,8 +217,8 @@ abbrev mutual
   command free at (ForEach x l body) = looping free at · word (codes "each") · name x · word (codes "in") · name l · braced free at (statements free (in_loop at) body)
   command free at (Insert t vs) = word (codes "insert") · name t · mark marks.LeftParen · separated (expr free) vs · mark marks.RightParen · mark marks.Semi
   command free at (Update t k sets) =
-      word (codes "update") · name t · mark marks.LeftBracket · keys free k · mark marks.RightBracket · word (codes "set") · separated (setting free) sets · mark marks.Semi
-  command free at (Remove t k) = word (codes "remove") · name t · mark marks.LeftBracket · keys free k · mark marks.RightBracket · mark marks.Semi
+      word (codes "update") · name t · index free k · word (codes "set") · separated (setting free) sets · mark marks.Semi
+  command free at (Remove t k) = word (codes "remove") · name t · index free k · mark marks.Semi
   command free at (Abort n) = word (codes "abort") · code free n · mark marks.Semi
   command free at (Reply e) = word (codes "reply") · expr free e · mark marks.Semi
 

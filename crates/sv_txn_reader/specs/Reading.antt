@@ -113,6 +113,19 @@ unfoldable mutual
   sums_at zero tokens = sums_with 0 (products_with 0 (factor_with 0 never never) never) never tokens
   sums_at (suc room) tokens = sums_with (suc room) (products_with (suc room) (factor_with (suc room) (factor_at room) (sums_at room)) (factor_at room)) (products_at room) tokens
 
+-- the same inside something that takes one of this room
+abbrev pub factor_below : ℕ → List Token → Read Graded
+factor_below zero = never
+factor_below (suc room) = factor_at room
+
+abbrev pub products_below : ℕ → List Token → Read Graded
+products_below zero = never
+products_below (suc room) = products_at room
+
+abbrev pub sums_below : ℕ → List Token → Read Graded
+sums_below zero = never
+sums_below (suc room) = sums_at room
+
 unfoldable pub expr_at : List Token → Read Term
 expr_at tokens = sums_at 15 tokens >>= λ e r. Ok (e.0, r)
 
@@ -182,6 +195,18 @@ unfoldable mutual
   disjunctions_at (suc room) tokens =
       disjunctions_with (suc room) (conjunctions_with (suc room) (literal_with (suc room) (sums_at (suc room)) (literal_at room) (disjunctions_at room)) (literal_at room)) (conjunctions_at room) tokens
 
+abbrev pub literal_below : ℕ → List Token → Read Judged
+literal_below zero = never
+literal_below (suc room) = literal_at room
+
+abbrev pub conjunctions_below : ℕ → List Token → Read Judged
+conjunctions_below zero = never
+conjunctions_below (suc room) = conjunctions_at room
+
+abbrev pub disjunctions_below : ℕ → List Token → Read Judged
+disjunctions_below zero = never
+disjunctions_below (suc room) = disjunctions_at room
+
 unfoldable pub cond_at : List Token → Read Test
 cond_at tokens = disjunctions_at 14 tokens >>= λ t r. Ok (t.0, r)
 
@@ -196,26 +221,25 @@ keys_at tokens =
 unfoldable pub index_at : List Token → Read (List Term)
 index_at tokens = kind_at (Mark marks.LeftBracket) tokens >>= λ _ r1. keys_at r1 >>= λ keys r2. kind_at (Mark marks.RightBracket) r2 >>= λ _ r3. Ok (keys, r3)
 
-unfoldable pub value_step : List Term → List Token → Read (List Term)
-value_step values tokens = expr_at tokens >>= λ e r. Ok (values ++ e ∷ [], r)
-
-unfoldable pub value_turn : List Term → List Token → Read (List Term)
-value_turn values tokens = kind_at (Mark marks.Comma) tokens >>= λ _ r. value_step values r
-
-unfoldable pub values_at : List Token → Read (List Term)
-values_at tokens = value_step [] tokens >>= λ values r. turns_at (is_next (Mark marks.Comma)) value_turn keep values r
-
 unfoldable pub setting_at : List Token → Read (Ident × Term)
 setting_at tokens = name_at tokens >>= λ x r1. kind_at (Mark marks.Eq) r1 >>= λ _ r2. expr_at r2 >>= λ e r3. Ok ((x, e), r3)
 
-unfoldable pub set_step : List (Ident × Term) → List Token → Read (List (Ident × Term))
-set_step sets tokens = setting_at tokens >>= λ s r. Ok (sets ++ s ∷ [], r)
+-- one more item behind others, which is read so
+unfoldable pub item_step : {A : Type 0} → (List A → List Token → Read A) → List A → List Token → Read (List A)
+item_step read items tokens = read items tokens >>= λ a r. Ok (items ++ a ∷ [], r)
 
-unfoldable pub set_turn : List (Ident × Term) → List Token → Read (List (Ident × Term))
-set_turn sets tokens = kind_at (Mark marks.Comma) tokens >>= λ _ r. set_step sets r
+unfoldable pub item_turn : {A : Type 0} → (List A → List Token → Read A) → List A → List Token → Read (List A)
+item_turn read items tokens = kind_at (Mark marks.Comma) tokens >>= λ _ r. item_step read items r
 
-unfoldable pub sets_at : List Token → Read (List (Ident × Term))
-sets_at tokens = set_step [] tokens >>= λ sets r. turns_at (is_next (Mark marks.Comma)) set_turn keep sets r
+-- items between commas
+unfoldable pub list_of : {A : Type 0} → (List A → List Token → Read A) → List Token → Read (List A)
+list_of read tokens = item_step read [] tokens >>= λ items r. turns_at (is_next (Mark marks.Comma)) (item_turn read) keep items r
+
+unfoldable pub value_at : List Term → List Token → Read Term
+value_at values tokens = expr_at tokens
+
+unfoldable pub set_at : List (Ident × Term) → List Token → Read (Ident × Term)
+set_at sets tokens = setting_at tokens
 
 -- statements
 
@@ -270,12 +294,12 @@ get_at tokens =
 
 unfoldable pub insert_at : List Token → Read Command
 insert_at tokens =
-    kind_at (Name (codes "insert")) tokens >>= λ _ r1. name_at r1 >>= λ table r2. kind_at (Mark marks.LeftParen) r2 >>= λ _ r3. values_at r3 >>= λ values r4.
+    kind_at (Name (codes "insert")) tokens >>= λ _ r1. name_at r1 >>= λ table r2. kind_at (Mark marks.LeftParen) r2 >>= λ _ r3. list_of value_at r3 >>= λ values r4.
     kind_at (Mark marks.RightParen) r4 >>= λ _ r5. kind_at (Mark marks.Semi) r5 >>= λ _ r6. Ok (trees.Insert table values, r6)
 
 unfoldable pub update_at : List Token → Read Command
 update_at tokens =
-    kind_at (Name (codes "update")) tokens >>= λ _ r1. name_at r1 >>= λ table r2. index_at r2 >>= λ keys r3. kind_at (Name (codes "set")) r3 >>= λ _ r4. sets_at r4 >>= λ sets r5.
+    kind_at (Name (codes "update")) tokens >>= λ _ r1. name_at r1 >>= λ table r2. index_at r2 >>= λ keys r3. kind_at (Name (codes "set")) r3 >>= λ _ r4. list_of set_at r4 >>= λ sets r5.
     kind_at (Mark marks.Semi) r5 >>= λ _ r6. Ok (trees.Update table keys sets, r6)
 
 unfoldable pub remove_at : List Token → Read Command
@@ -384,17 +408,14 @@ type_named word =
     if bytes_eq word (codes "int") then Some types.Int else if bytes_eq word (codes "text") then Some types.Text
     else if bytes_eq word (codes "ints") then Some types.Ints else None
 
-unfoldable pub param_step : List (Ident × Ty) → List Token → Read (List (Ident × Ty))
-param_step params tokens =
+-- one more parameter
+unfoldable pub param_at : List (Ident × Ty) → List Token → Read (Ident × Ty)
+param_at params tokens =
     if is_name tokens && nat_le 16 (length params) then refuse Many tokens
-    else (name_at tokens >>= λ x r1. kind_at (Mark marks.Colon) r1 >>= λ _ r2. token_at (λ token. by_word type_named token.kind) r2 >>= λ ty r3. Ok (params ++ (x, ty) ∷ [], r3))
-
-unfoldable pub param_turn : List (Ident × Ty) → List Token → Read (List (Ident × Ty))
-param_turn params tokens = kind_at (Mark marks.Comma) tokens >>= λ _ r. param_step params r
+    else (name_at tokens >>= λ x r1. kind_at (Mark marks.Colon) r1 >>= λ _ r2. token_at (λ token. by_word type_named token.kind) r2 >>= λ ty r3. Ok ((x, ty), r3))
 
 unfoldable pub params_at : List Token → Read (List (Ident × Ty))
-params_at tokens =
-    if is_next (Mark marks.RightParen) tokens then Ok ([], tokens) else (param_step [] tokens >>= λ params r. turns_at (is_next (Mark marks.Comma)) param_turn keep params r)
+params_at tokens = if is_next (Mark marks.RightParen) tokens then Ok ([], tokens) else list_of param_at tokens
 
 unfoldable pub txn_at : List Token → Read Transaction
 txn_at tokens =

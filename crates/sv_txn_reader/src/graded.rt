@@ -1,15 +1,15 @@
 use sv_app::{Cond, Expr};
 
-/// An expression with its depth.
+/// An expression, and how much deeper it is than a name.
 #[derive(Debug, Drop)]
 pub struct Graded {
     pub expr: Expr,
-    pub depth: usize,
+    pub extra: usize,
 }
 
-/// A condition with its depth.
+/// A condition, and how much deeper it is than a comparison of names.
 #[derive(Debug, Drop)]
 pub struct Judged {
     pub cond: Cond,
-    pub depth: usize,
+    pub extra: usize,
 }

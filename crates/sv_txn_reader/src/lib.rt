@@ -3,11 +3,13 @@
 #![tactic(auto)]
 
 mod beginnings;
+mod conditions;
 mod counts;
 mod graded;
 mod heads;
 mod reading;
-// mod terms;
+mod terms;
+mod values;
 
 pub use counts::Counts;
 pub use reading::read_txns;

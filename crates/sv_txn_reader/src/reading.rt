@@ -2,6 +2,7 @@ ghost use Rattle.std.specs.Prelude.{◌≡◌, ◌≤◌, ◌-◌, List, Ok, Err
 ghost use Rattle.sv_app.specs.declared.refusals.Refusal.{Refusal as IsRefusal};
 ghost use Rattle.sv_app.specs.declared.refusals.Stop.TheVariants.{Refused};
 ghost use Rattle.sv_app.specs.Trees.{Transaction, transactions_of};
+ghost use Rattle.sv_app.specs.TxnConditions.{KeepsTxnGrammar, KeepsTxnLimits};
 ghost use Rattle.sv_lex.specs.declared.tokens.Token.{Token as IsToken};
 ghost use Rattle.sv_txn_reader.specs.Refused.{AreRead, IsRefused, IsAnswer};
 
@@ -28,6 +29,9 @@ pub fn read_txns(
     ensures place { IfOk result (λ read. (at ≤ read.1) × (read.1 ≤ length tokens.now)) }
     // what is read are transactions that keep the limits, and none begins behind them
     ensures read { IfOk result (λ read. AreRead (transactions_of read.0.items) (drop at tokens.now) (drop read.1 tokens.now)) }
+    // they keep what acceptance asks for
+    ensures grammar { IfOk result (λ read. KeepsTxnGrammar (transactions_of read.0.items)) }
+    ensures limits { IfOk result (λ read. KeepsTxnLimits (transactions_of read.0.items)) }
     // such transactions are read, unless there is no memory
     ensures all { (txns : List Transaction) (rest : List IsToken) → AreRead txns (drop at tokens.now) rest → IsAnswer result txns (length tokens.now - length rest) }
     // a refusal stands where the grammar and the limits place it

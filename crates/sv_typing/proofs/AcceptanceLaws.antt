@@ -1,16 +1,23 @@
 -- The phases put together, and what the limits say of each table.
-use Rattle.std.proofs.Common.{◌≡◌, ℕ, suc, zero, ◌<◌, ◌≤◌, Bool, true, false, List, [], ◌∷◌, length, get_or, arith, Option, Some, None, subst}
+use Rattle.std.proofs.Common.{◌≡◌, ℕ, suc, zero, ◌<◌, ◌≤◌, Bool, true, false, List, [], ◌∷◌, length, get_or, arith, ◌∙◌, Option, Some, None, subst}
 use Rattle.std.specs.List.{All, find}
 use Rattle.std.specs.Option.{MatchOption}
 use Rattle.std.specs.Prelude.{if◌then◌else◌}
 use Rattle.sv_app.specs.declared.refusals.Refusal.{Refusal}
 use Rattle.sv_app.specs.declared.schemas.Table.{Table}
+use Rattle.sv_app.specs.Accepted.{AcceptedApp}
 use Rattle.sv_app.specs.Acceptance.{IsAccepted, IsRefused, ByCycle}
-use Rattle.sv_app.specs.Conditions.{IsSmallTable}
+use Rattle.sv_app.specs.Conditions.{IsSmallTable, KeepsGrammar, KeepsLimits, AreNumbered}
+use Rattle.sv_app.specs.Numbers.{numbered}
 use Rattle.sv_app.specs.References.{IsOnCycle, IsCyclic}
 use Rattle.sv_app.specs.Schema.{Declaration, declaration_of, schema_of}
 use Rattle.sv_app.specs.Trees.{Transaction}
+use Rattle.sv_app.specs.TxnConditions.{KeepsTxnGrammar, KeepsTxnLimits}
+use Rattle.sv_app.specs.TxnNumbers.{numbered_txns}
 use Rattle.sv_app.specs.TxnTyping.{all_faults}
+use Rattle.sv_typing.proofs.NumberedSchema.{grammar_numbered, limits_numbered, invariants_numbered, faults_numbered, acyclic_numbered, numbered_twice}
+use Rattle.sv_typing.proofs.NumberedTxns.{txn_grammar_numbered, txn_limits_numbered, txns_faults_numbered, txns_numbered_twice}
+use Rattle.sv_typing.proofs.PlaceLaws.{schema_right, txns_right}
 
 rest_small : (t : Declaration) (ts : List Declaration) → All IsSmallTable (t ∷ ts) → All IsSmallTable ts
 rest_small t ts each k d h = each (suc k) d (omega (arith, h))
@@ -33,3 +40,21 @@ pub cycles_decide : (schema : List Declaration) (txns : List Transaction) (o : O
     → MatchOption o (IsAccepted schema txns) (λ refusal. IsRefused schema txns refusal)
 cycles_decide schema txns None typed free = record { typed = typed; acyclic = free }
 cycles_decide schema txns (Some refusal) typed cyclic = ByCycle typed cyclic
+
+-- with its numbers, what is accepted is an accepted application
+pub accepted_app : (schema : List Declaration) (txns : List Transaction) → KeepsGrammar schema → KeepsLimits schema → AreNumbered schema → KeepsTxnGrammar txns → KeepsTxnLimits txns
+    → IsAccepted schema txns → AcceptedApp (numbered schema) (numbered_txns schema txns)
+accepted_app schema txns grammar limits invariants txn_grammar txn_limits accepted = record {
+  tables = record {
+    grammar = grammar_numbered schema grammar;
+    limits = limits_numbered schema limits;
+    invariants = invariants_numbered schema invariants;
+    typed = faults_numbered schema ∙ schema_right schema txns accepted.typed;
+    acyclic = acyclic_numbered schema accepted.acyclic;
+    names = numbered_twice schema;
+  };
+  grammar = txn_grammar_numbered schema txns txn_grammar;
+  limits = txn_limits_numbered schema txns txn_limits;
+  typed = txns_faults_numbered schema txns ∙ txns_right schema txns accepted.typed;
+  names = txns_numbered_twice schema txns;
+}

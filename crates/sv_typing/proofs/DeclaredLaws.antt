@@ -19,8 +19,8 @@ one_more ss i s names own now goal h e before step inner =
     let within : List Declared = flat_map declared_by (inner_statements c) in
     let more : List Declared = flat_map declared_by (block_statements (block_of (drop (i + 1) ss))) in
     let split : flat_map declared_by (block_statements (block_of (drop i ss))) ≡ declared_by c ++ (within ++ more) =
-        ap (λ rest. flat_map declared_by (block_statements (block_of rest))) (at_drop ss i s h e)
-        ∙ ap (λ l. declared_by c ++ l) (flat_map-append declared_by (inner_statements c) (block_statements (block_of (drop (i + 1) ss)))) in
+    ap (λ rest. flat_map declared_by (block_statements (block_of rest))) (at_drop ss i s h e)
+    ∙ ap (λ l. declared_by c ++ l) (flat_map-append declared_by (inner_statements c) (block_statements (block_of (drop (i + 1) ss)))) in
     ap (λ l. l ++ more) (inner ∙ ap (λ l. l ++ within) step) ∙ append_assoc (names ++ declared_by c) within more ∙ append_assoc names (declared_by c) (within ++ more)
     ∙ ap (λ l. names ++ l) (sym split) ∙ before
 

@@ -1,8 +1,13 @@
 pub mod AcceptanceLaws
 pub mod NotedLaws
+pub mod NumberedSchema
+pub mod NumberedTxns
 pub mod PlaceLaws
 pub mod CycleLaws
 pub mod DeclaredLaws
+pub mod Erased
+pub mod ErasedTxns
+pub mod FillLaws
 pub mod FirstLaws
 pub mod LookupLaws
 pub mod StatementLaws

@@ -25,7 +25,7 @@ pub noted_more : {T : Type 0} (f : T → List Refusal) (xs : List T) (i : ℕ) (
 noted_more f xs i x start held now h e before step =
     step ∙ ap (λ o. noted o (f x)) before ∙ sym (noted_append start (flat_map f (take i xs)) (f x)) ∙ ap (noted start) (sym (flat_taken f xs i x h e))
 
-flat_mapped : {T A B : Type 0} (g : T → B) (f : B → List A) (xs : List T) → flat_map f (map g xs) ≡ flat_map (λ x. f (g x)) xs
+pub flat_mapped : {T A B : Type 0} (g : T → B) (f : B → List A) (xs : List T) → flat_map f (map g xs) ≡ flat_map (λ x. f (g x)) xs
 flat_mapped g f [] = refl
 flat_mapped g f (x ∷ xs) = ap (λ ys. f (g x) ++ ys) (flat_mapped g f xs)
 

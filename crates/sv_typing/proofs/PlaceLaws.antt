@@ -66,10 +66,10 @@ own_number : (names : List Ident) (k : ℕ) (x : Ident) → repeats names ≡ []
 own_number names k x e s = ap (λ o. unwrap_or o 0) (place_own names k x e s)
 
 -- nothing is wrong in the schema where nothing is wrong at all
-schema_right : (schema : List Declaration) (txns : List Transaction) → all_faults schema txns ≡ [] → faults schema ≡ []
+pub schema_right : (schema : List Declaration) (txns : List Transaction) → all_faults schema txns ≡ [] → faults schema ≡ []
 schema_right schema txns e = left_none (faults schema) (txns_faults schema txns) e
 
-txns_right : (schema : List Declaration) (txns : List Transaction) → all_faults schema txns ≡ [] → txns_faults schema txns ≡ []
+pub txns_right : (schema : List Declaration) (txns : List Transaction) → all_faults schema txns ≡ [] → txns_faults schema txns ≡ []
 txns_right schema txns e = right_none (faults schema) (txns_faults schema txns) e
 
 pub tables_by_place : (schema : List Declaration) (txns : List Transaction) (place : ℕ) (t : Declaration) → IsAccepted schema txns → slice_get (numbered schema) place ≡ Some t → t.name.num ≡ place

@@ -19,7 +19,7 @@ pub one_value : {T : Type 0} (f : T → Ident) (at : Scope) (d : Declaration) (x
 one_value f at d xs es i x e held now goal h is k has before step =
     let more : List Refusal = each_type_faults at d (map f (drop (i + 1) xs)) (terms_of (drop (i + 1) es)) in
     let split : noted held (each_type_faults at d (map f (drop i xs)) (terms_of (drop i es))) ≡ noted held (type_faults at d (f x) (term_of e) ++ more) =
-        rw (at_drop xs i x h is, at_drop es i e k has) refl in
+    rw (at_drop xs i x h is, at_drop es i e k has) refl in
     ap (λ o. noted o more) step ∙ sym (noted_append held (type_faults at d (f x) (term_of e)) more) ∙ sym split ∙ before
 
 past_end : {A : Type 0} (xs : List A) (i : ℕ) → length xs ≤ i → drop i xs ≡ []

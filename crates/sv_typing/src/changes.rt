@@ -69,7 +69,13 @@ pub fn note_remove(first: &mut First, at: &Scope, name: &Ident, key: &[Expr])
 }
 
 /// Notes what is wrong with the columns that an update of this table sets.
-fn note_columns_set(first: &mut First, at: &Scope, table: &Table, name: &Ident, sets: &[(Ident, Expr)])
+fn note_columns_set(
+    first: &mut First,
+    at: &Scope,
+    table: &Table,
+    name: &Ident,
+    sets: &[(Ident, Expr)],
+)
     ensures { first.new.held ≡ noted first.old.held (sets_faults (scope_of at.now) name.now (declaration_of table.now) (sets_of sets.now)) }
 {
     note_sets(first, &at.updating(*name), table, sets);
@@ -111,7 +117,13 @@ fn note_second_sets(first: &mut First, sets: &[(Ident, Expr)])
 
 /// Notes what is wrong with an update.
 #[tactic(auto, using(crate::proofs::NotedLaws::noting))]
-pub fn note_update(first: &mut First, at: &Scope, name: &Ident, key: &[Expr], sets: &[(Ident, Expr)])
+pub fn note_update(
+    first: &mut First,
+    at: &Scope,
+    name: &Ident,
+    key: &[Expr],
+    sets: &[(Ident, Expr)],
+)
     ensures { first.new.held ≡ noted first.old.held (command_faults (scope_of at.now) (Update name.now (terms_of key.now) (sets_of sets.now))) }
 {
     note_updated(first, at, name, key, sets);

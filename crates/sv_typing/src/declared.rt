@@ -10,11 +10,7 @@ use std::alloc::Global;
 use sv_app::{Declared, Ident, Parts, Stmt, Txn, Ty, parts_of};
 use sv_value::NoMemory;
 
-fn put_name(
-    names: &mut Vec<Declared>,
-    name: Ident,
-    table: Option<Ident>,
-) -> Result<(), NoMemory>
+fn put_name(names: &mut Vec<Declared>, name: Ident, table: Option<Ident>) -> Result<(), NoMemory>
     ensures { OnOk result (names.new.items ≡ names.old.items ++ record { name = name; table = table } ∷ []) }
 {
     names.push(Declared { name, table })?;

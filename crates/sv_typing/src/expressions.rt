@@ -40,20 +40,10 @@ fn note_value(first: &mut First, meaning: Option<Meaning>, name: &Ident)
 fn note_no_column_of(first: &mut First, tables: &[Table], table: &Ident, name: &Ident)
     ensures { first.new.held ≡ noted first.old.held (no_column_of (schema_of tables.now) table.now name.now) }
 {
-    first.note_if(
-        has_no_column(tables, table, name),
-        name.spot,
-        Code::Unknown,
-    );
+    first.note_if(has_no_column(tables, table, name), name.spot, Code::Unknown);
 }
 
-fn note_field(
-    first: &mut First,
-    at: &Scope,
-    meaning: Option<Meaning>,
-    row: &Ident,
-    column: &Ident,
-)
+fn note_field(first: &mut First, at: &Scope, meaning: Option<Meaning>, row: &Ident, column: &Ident)
     ensures { first.new.held ≡ noted first.old.held (field_faults (scope_of at.now) meaning row.now column.now) }
 {
     match meaning {

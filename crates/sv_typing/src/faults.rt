@@ -58,7 +58,11 @@ fn note_tables(first: &mut First, tables: &[Table])
 }
 
 /// What is wrong first with the names and types of the tables and transactions.
-pub fn first_fault(alloc: Global, tables: &[Table], txns: &[Txn]) -> Result<Option<Refusal>, NoMemory>
+pub fn first_fault(
+    alloc: Global,
+    tables: &[Table],
+    txns: &[Txn],
+) -> Result<Option<Refusal>, NoMemory>
     ensures { IfOk result (λ found. found ≡ noted none (all_faults (schema_of tables.now) (transactions_of txns.now))) }
 {
     let mut first = First::none();

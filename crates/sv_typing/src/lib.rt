@@ -4,6 +4,7 @@
 mod acceptance;
 mod changes;
 mod columns;
+mod copies;
 mod cycles;
 mod declared;
 mod expressions;
@@ -21,6 +22,7 @@ mod statements;
 mod terms;
 #[cfg(test)]
 mod tests;
+mod txn_numbers;
 mod txns;
 mod types;
 mod values;

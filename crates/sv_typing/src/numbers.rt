@@ -12,8 +12,8 @@ use sv_app::{Check, Column, Ident, Inv, InvBody, Table};
 use sv_value::NoMemory;
 
 /// The name with its number among these.
-fn number_in<T: Named>(name: &Ident, items: &[T]) -> Ident
-    requires { length items.now ≤ 16 }
+pub fn number_in<T: Named>(name: &Ident, items: &[T]) -> Ident
+    requires { length items.now ≤ 144 }
     ensures { result ≡ numbered_in (map T.ident items.now) name.now }
 {
     let num = match place_of(name, items) {
@@ -37,7 +37,7 @@ fn number_column(table: &Table, name: &Ident) -> Ident
 
 /// The name with its number among the tables.
 #[tactic(auto, using(crate::proofs::LookupLaws::names_declared))]
-fn number_table(tables: &[Table], name: &Ident) -> Ident
+pub fn number_table(tables: &[Table], name: &Ident) -> Ident
     requires { length tables.now ≤ 16 }
     ensures { result ≡ numbered_in (table_names (schema_of tables.now)) name.now }
 {
@@ -45,7 +45,7 @@ fn number_table(tables: &[Table], name: &Ident) -> Ident
 }
 
 /// The name with its number among the columns of the table that is meant.
-fn number_target(tables: &[Table], parent: &Ident, target: &Ident) -> Ident
+pub fn number_target(tables: &[Table], parent: &Ident, target: &Ident) -> Ident
     requires { KeepsLimits (schema_of tables.now) }
     ensures { result ≡ numbered_in (columns_meant (table_meant (schema_of tables.now) parent.now)) target.now }
 {

@@ -1,8 +1,9 @@
-ghost use Rattle.std.specs.Prelude.{◌≡◌, ◌++◌, OnOk, not};
+ghost use Rattle.std.specs.Prelude.{◌≡◌, ◌++◌, List, OnOk, not};
+ghost use Rattle.std.specs.Prelude.{None as none};
+ghost use Rattle.sv_app.specs.declared.refusals.Refusal.{Refusal as RefusalValue};
 ghost use Rattle.std.specs.Option.{option_map};
-
 ghost use Rattle.sv_app.specs.Trees.{command_of, block_of, term_of, test_of, Assign};
-ghost use Rattle.sv_app.specs.TxnTyping.{assignment_faults, no_table, condition_faults, inner_faults, walk_faults, is_list as list_is, declared_type, behind, command_faults, block_faults};
+ghost use Rattle.sv_app.specs.TxnTyping.{assignment_faults, no_table, condition_faults, inner_faults, walk_faults, is_list as list_is, type_if_right, declared_type, behind, command_faults, block_faults};
 ghost use Rattle.sv_app.specs.Lookups.{holds_of};
 ghost use Rattle.sv_typing.specs.Noted.{noted};
 ghost use Rattle.sv_typing.specs.Standing.{scope_of, in_block, knowing as knowing_if};
@@ -89,12 +90,7 @@ fn note_rows(
 }
 
 /// Notes what is wrong with a statement, the blocks in it left out.
-fn note_stmt(
-    alloc: Global,
-    first: &mut First,
-    at: &Scope,
-    stmt: &Stmt,
-) -> Result<(), NoMemory>
+fn note_stmt(alloc: Global, first: &mut First, at: &Scope, stmt: &Stmt) -> Result<(), NoMemory>
     ensures { OnOk result (first.new.held ≡ noted first.old.held (command_faults (scope_of at.now) (command_of stmt.now))) }
 {
     match parts_of(stmt) {
@@ -104,7 +100,10 @@ fn note_stmt(
         Parts::Get { row, table, key } => note_fetch(first, at, &row, &table, key),
         Parts::If { cond, .. } => note_test(first, at, cond),
         Parts::Rows {
-            row, table, cond, ..
+            row,
+            table,
+            cond,
+            ..
         } => return note_rows(alloc, first, at, &row, &table, cond),
         Parts::Each { list, .. } => note_walk(first, meaning_of(at, &list), &list),
         Parts::Insert { table, values } => note_insert(first, at, &table, values),
@@ -115,16 +114,25 @@ fn note_stmt(
     Ok(())
 }
 
+/// The type, where nothing was found to be wrong.
+#[tactic(auto, using(crate::proofs::StatementLaws::rights))]
+fn type_if_right(first: &First, ty: Option<Ty>) -> Option<Ty>
+    ensures { (faults : List RefusalValue) → first.now.held ≡ noted none faults → result ≡ type_if_right faults ty }
+{
+    match &first.held {
+        Some(_) => None,
+        None => ty,
+    }
+}
+
 /// The type of a variable that is declared with the expression.
 fn declared_type(at: &Scope, value: &Expr) -> Option<Ty>
     ensures { result ≡ declared_type (scope_of at.now) (term_of value.now) }
 {
     let mut first = First::none();
     note_term(&mut first, at, value);
-    match first.held {
-        Some(_) => None,
-        None => type_of(at, value),
-    }
+    let ty = type_of(at, value);
+    type_if_right(&first, ty)
 }
 
 /// What is declared by a statement, for the statements behind it.
@@ -197,7 +205,10 @@ fn note_inner(
             note_block(alloc, first, tables, known, no)
         }
         Parts::Rows {
-            row, table, body, ..
+            row,
+            table,
+            body,
+            ..
         } => {
             let inside = with_name(alloc, known, row, Meaning::Row(table))?;
             note_block(alloc, first, tables, &inside, body)

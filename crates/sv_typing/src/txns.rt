@@ -27,12 +27,7 @@ fn note_names(alloc: Global, first: &mut First, txn: &Txn) -> Result<(), NoMemor
 }
 
 /// Notes what is wrong with the statements of the transaction.
-fn note_body(
-    alloc: Global,
-    first: &mut First,
-    tables: &[Table],
-    txn: &Txn,
-) -> Result<(), NoMemory>
+fn note_body(alloc: Global, first: &mut First, tables: &[Table], txn: &Txn) -> Result<(), NoMemory>
     ensures { OnOk result (first.new.held ≡ noted first.old.held (block_faults (opening (schema_of tables.now) txn.now.params.items) (block_of txn.now.body.items))) }
 {
     let known = known_parameters(alloc, &txn.params)?;
@@ -42,12 +37,7 @@ fn note_body(
 
 /// Notes what is wrong in a transaction.
 #[tactic(auto, using(crate::proofs::NotedLaws::noting))]
-fn note_txn(
-    alloc: Global,
-    first: &mut First,
-    tables: &[Table],
-    txn: &Txn,
-) -> Result<(), NoMemory>
+fn note_txn(alloc: Global, first: &mut First, tables: &[Table], txn: &Txn) -> Result<(), NoMemory>
     ensures { OnOk result (first.new.held ≡ noted first.old.held (txn_faults (schema_of tables.now) (transaction_of txn.now))) }
 {
     note_names(alloc, first, txn)?;

@@ -75,13 +75,7 @@ fn note_type(first: &mut First, at: &Scope, table: &Table, column: &Ident, expr:
 
 /// Notes each value of another type than its column's.
 #[tactic(auto, using(crate::proofs::ValueLaws::pairing))]
-fn note_types<T: Named>(
-    first: &mut First,
-    at: &Scope,
-    table: &Table,
-    columns: &[T],
-    exprs: &[Expr],
-)
+fn note_types<T: Named>(first: &mut First, at: &Scope, table: &Table, columns: &[T], exprs: &[Expr])
     ensures { first.new.held ≡ noted first.old.held (each_type_faults (scope_of at.now) (declaration_of table.now) (map T.ident columns.now) (terms_of exprs.now)) }
 {
     for place in 0..columns.len() {

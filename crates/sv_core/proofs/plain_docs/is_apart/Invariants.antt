@@ -1,6 +1,6 @@
 use Rattle.std.proofs.Common.{◌≡◌, ℕ, ◌<◌, get_or}
 use Rattle.sv_app.specs.declared.requests.InitRow.{InitRow}
-use Rattle.sv_core.specs.TablesOfCut.{init_place}
+use Rattle.sv_effect.specs.TablesOfCut.{init_place}
 use Rattle.sv_core.proofs.plain_docs.is_apart.Given as goal
 
 abbrev pub invariant-loop-other : goal.invariant-loop-other

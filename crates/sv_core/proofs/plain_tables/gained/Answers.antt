@@ -3,10 +3,10 @@ use Rattle.std.proofs.lemmas.Int.{ints}
 use Rattle.sv_core.proofs.PlainTableLaws.{gained_more, Within_more}
 use Rattle.sv_core.proofs.plain_tables.gained.Goals as goal
 
-pub loop-effect-preserved : goal.loop-effect-preserved
-loop-effect-preserved c = record {
+pub loop-gain-preserved : goal.loop-gain-preserved
+loop-gain-preserved c = record {
   rest =
-      gained_more c.args.place.now c.args.changes.now c.loop-effect.effect-index c.effect-item.result _ c.gain.result _ c.loop-effect-test.true c.effect-item.is c.gain.ensures (omega (arith, ints))
-      c.loop-effect.invariant.rest;
-  bounded = Within_more c.loop-effect.effect-index _ c.gain.result _ c.loop-effect.invariant.bounded c.gain.type_inv (omega (arith, ints));
+      gained_more c.args.place.now c.args.gains.now c.loop-gain.gain-index c.gain-item.result _ c.added.result _ c.loop-gain-test.true c.gain-item.is c.added.ensures (omega (arith, ints))
+      c.loop-gain.invariant.rest;
+  bounded = Within_more c.loop-gain.gain-index _ c.added.result _ c.loop-gain.invariant.bounded c.added.type_inv (omega (arith, ints));
 }

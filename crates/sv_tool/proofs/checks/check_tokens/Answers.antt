@@ -1,18 +1,18 @@
 use Rattle.sv_app.specs.Schema.{schema_of}
-use Rattle.sv_tool.proofs.CheckLaws.{limits_of, rest_is, accepted_tokens, refused_tokens, all_tokens, no_memory}
+use Rattle.sv_tool.proofs.CheckLaws.{limits_of, accepted_tokens, refused_tokens, all_tokens, unread_tokens}
 use Rattle.sv_tool.proofs.checks.check_tokens.Goals as goal
 
-pub accept_read-requires : goal.accept_read-requires
-accept_read-requires c = limits_of _ _ (schema_of c.in-Ok.tables.items) c.in-Ok.ensures.read
+pub check_behind-requires-clause-limits : goal.check_behind-requires-clause-limits
+check_behind-requires-clause-limits c = limits_of _ _ (schema_of c.in-Ok.tables.items) c.in-Ok.ensures.read
 
 pub returns-in-Ok-clause-accepted : goal.returns-in-Ok-clause-accepted
-returns-in-Ok-clause-accepted c = accepted_tokens c.accept_read.result c.args.tokens.now c.in-Ok.at _ (schema_of c.in-Ok.tables.items) (rest_is c.args.tokens.now c.in-Ok.at) c.in-Ok.ensures.read c.accept_read.ensures.plain c.accept_read.ensures.accepted c.accept_read.ensures.count
+returns-in-Ok-clause-accepted c = accepted_tokens c.check_behind.result c.args.tokens.now c.in-Ok.at (schema_of c.in-Ok.tables.items) c.in-Ok.ensures.read c.check_behind.ensures.accepted
 
 pub returns-in-Ok-clause-refused : goal.returns-in-Ok-clause-refused
-returns-in-Ok-clause-refused c = λ refusal is. refused_tokens c.args.tokens.now c.in-Ok.at _ c.args.end (schema_of c.in-Ok.tables.items) refusal (rest_is c.args.tokens.now c.in-Ok.at) c.in-Ok.ensures.read (c.accept_read.ensures.refused refusal is)
+returns-in-Ok-clause-refused c = λ refusal is. refused_tokens c.args.tokens.now c.in-Ok.at c.args.end (schema_of c.in-Ok.tables.items) refusal c.in-Ok.ensures.read (c.check_behind.ensures.refused refusal is)
 
 pub returns-in-Ok-clause-all : goal.returns-in-Ok-clause-all
-returns-in-Ok-clause-all c = λ schema a. all_tokens c.accept_read.result c.args.tokens.now c.in-Ok.at _ (schema_of c.in-Ok.tables.items) schema (rest_is c.args.tokens.now c.in-Ok.at) c.in-Ok.ensures.all c.accept_read.ensures.all a
+returns-in-Ok-clause-all c = λ schema txns a. all_tokens c.check_behind.result c.args.tokens.now c.in-Ok.at (schema_of c.in-Ok.tables.items) schema txns c.in-Ok.ensures.all c.check_behind.ensures.all a
 
 pub returns-in-Err-clause-all : goal.returns-in-Err-clause-all
-returns-in-Err-clause-all c = λ schema a. no_memory c.in-Err.stop c.args.tokens.now schema c.in-Err.ensures.all a
+returns-in-Err-clause-all c = λ schema txns a. unread_tokens c.in-Err.stop c.args.tokens.now schema txns c.in-Err.ensures.all a

@@ -1,6 +1,6 @@
 use Rattle.std.proofs.Common.{◌≡◌, length, take, ◌≤◌}
 use Rattle.std.specs.Prelude.{map}
-use Rattle.sv_core.specs.Rows.{entry_of}
+use Rattle.sv_store.specs.Stored.{entry_of}
 use Rattle.sv_tool.specs.ReplayText.{of_table}
 use Rattle.sv_tool.proofs.shows.count_of.Given as goal
 

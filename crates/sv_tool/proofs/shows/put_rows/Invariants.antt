@@ -1,7 +1,7 @@
 use Rattle.std.proofs.Common.{◌≡◌, ◌++◌, take}
 use Rattle.std.specs.Prelude.{map}
 use Rattle.std.specs.List.{flat_map}
-use Rattle.sv_core.specs.Rows.{entry_of}
+use Rattle.sv_store.specs.Stored.{entry_of}
 use Rattle.sv_tool.specs.Lines.{row_line}
 use Rattle.sv_tool.specs.ReplayText.{of_table}
 use Rattle.sv_tool.proofs.shows.put_rows.Given as goal

@@ -14,7 +14,7 @@ note_block-loop-stmt-preserved t c =
     c.loop-stmt.first.held c.note_stmt.new.first.held c.note_inner.new.first.held (noted c.args.first.now.held (block_faults (in_block c.args.tables.now c.args.outside.now) (block_of c.args.stmts.now)))
     (omega (arith, c.loop-stmt-test.true)) c.stmt-item.is c.loop-stmt.invariant
     (subst (λ (at : Scope). c.note_stmt.new.first.held ≡ noted c.loop-stmt.first.held (command_faults at (command_of c.stmt-item.result)))
-      (c.in_block.ensures ∙ ap (λ (known : List Known). in_block c.args.tables.now known) c.deref.ensures.value) c.in_ok-note_stmt.ensures)
+    (c.in_block.ensures ∙ ap (λ (known : List Known). in_block c.args.tables.now known) c.deref.ensures.value) c.in_ok-note_stmt.ensures)
     (subst (λ (known : List Known). c.note_inner.new.first.held ≡ noted c.note_stmt.new.first.held (inner_faults (in_block c.args.tables.now known) (command_of c.stmt-item.result)))
-      c.deref-in-loop-stmt.ensures.value c.in_ok-note_inner.ensures)
+    c.deref-in-loop-stmt.ensures.value c.in_ok-note_inner.ensures)
     c.in_ok-know.ensures

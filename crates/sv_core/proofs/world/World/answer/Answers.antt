@@ -2,7 +2,7 @@ use Rattle.std.proofs.Common.{◌*◌, ◌≤◌, length, reverse, arith}
 use Rattle.std.proofs.lemmas.List.{length-reverse}
 use Rattle.sv_core.specs.Document.{document_of}
 use Rattle.sv_core.specs.History.{History}
-use Rattle.sv_core.proofs.TakeLaws.{sized}
+use Rattle.sv_core.proofs.MergeLaws.{sized}
 use Rattle.sv_core.proofs.RoomLaws.{length_few}
 use Rattle.sv_core.proofs.world.World.answer.Goals as goal
 

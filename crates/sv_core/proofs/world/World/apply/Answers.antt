@@ -4,15 +4,16 @@ use Rattle.std.specs.Vec.{vec_capacity}
 use Rattle.sv_value.specs.Cuts.{origin, number}
 use Rattle.sv_core.specs.declared.entries.Delivered.TheVariants.{Applied}
 use Rattle.sv_core.specs.declared.entries.Entry.TheVariants.{Apply}
-use Rattle.sv_core.specs.Applied.{with_changes}
+use Rattle.sv_effect.specs.Applied as applied_all
+use Rattle.sv_effect.specs.Commutes.{TablesFit}
 use Rattle.sv_core.specs.Document.{document_of}
 use Rattle.sv_core.specs.History.{History, published}
-use Rattle.sv_core.specs.Rows.{CanTake}
+use Rattle.sv_core.specs.Takes.{CanTake}
 use Rattle.sv_core.specs.World.{delivered}
 use Rattle.sv_core.specs.WorldState.{listed, Keeps}
 use Rattle.sv_core.proofs.WorldLaws.{listed_is, read_at, site_read, CanBring, can_bring, same_op, keeps_applied, history_room, is_apply, op_inside, reverse_push, keeps_room}
 use Rattle.sv_core.proofs.RoomLaws.{published_few}
-use Rattle.sv_core.proofs.TakeLaws.{sized}
+use Rattle.sv_core.proofs.MergeLaws.{sized}
 use Rattle.sv_core.proofs.world.World.apply.Goals as goal
 
 pub unreachable-requires : goal.unreachable-requires
@@ -57,11 +58,11 @@ bring-requires-clause-room c =
     let most : c.args.site ≤ doc.sites = subst (λ p. c.args.site ≤ p.doc.sites) (sym c.self.view_is) c.requires.site in
     let applied : delivered doc h c.args.site c.args.packet.now ≡ Applied = subst (λ p. delivered p.doc p.history c.args.site c.args.packet.now ≡ Applied) (sym c.self.view_is) c.requires.applied in
     let read = site_read doc h (map (λ v. v.items) c.self.inside.published.items) c.self.inside.sites.items c.self.inside.answered (vec_capacity c.self.inside.history) c.args.site c.number.result c.index_mut.result.now k c.number.ensures.value c.number.ensures.from most c.index_mut.ensures.value in
-    let can : CanBring doc h c.args.packet.now c.index_mut.result.now = can_bring doc h c.args.site c.args.packet.now c.index_mut.result.now k.sound k.legal read.stands applied in
+    let can : CanBring doc h c.args.packet.now c.index_mut.result.now = can_bring doc h c.args.site c.args.packet.now c.index_mut.result.now k.sound k.legal read.one most read.stands applied in
     can.room
 
-pub bring-requires-clause-rows : goal.bring-requires-clause-rows
-bring-requires-clause-rows c =
+pub bring-requires-clause-store : goal.bring-requires-clause-store
+bring-requires-clause-store c =
     let doc = document_of c.self.inside.doc.value in
     let h : History = reverse c.self.inside.history.items in
     let k = c.self.invariant in
@@ -71,12 +72,13 @@ bring-requires-clause-rows c =
     c.list_of.ensures ∙ ap (λ vs. listed (map (λ v. v.items) vs) c.args.packet.now) c.deref.ensures.value
     ∙ listed_is doc h (map (λ v. v.items) c.self.inside.published.items) k.sound.some k.legal k.lists_long k.lists_are c.args.packet.now in
     let read = site_read doc h (map (λ v. v.items) c.self.inside.published.items) c.self.inside.sites.items c.self.inside.answered (vec_capacity c.self.inside.history) c.args.site c.number.result c.index_mut.result.now k c.number.ensures.value c.number.ensures.from most c.index_mut.ensures.value in
-    let can : CanBring doc h c.args.packet.now c.index_mut.result.now = can_bring doc h c.args.site c.args.packet.now c.index_mut.result.now k.sound k.legal read.stands applied in
+    let can : CanBring doc h c.args.packet.now c.index_mut.result.now = can_bring doc h c.args.site c.args.packet.now c.index_mut.result.now k.sound k.legal read.one most read.stands applied in
     let inside : c.number-in-Ok.result < length c.list_of.result.now = omega (arith, c.number-in-Ok.ensures, op_inside doc h c.args.site c.args.packet.now applied, ap length ops) in
     let op : slice_get (published doc h (origin c.args.packet.now)) (number c.args.packet.now) ≡ Some c.index-list_of-number.result =
     (λ i. slice_get (sym ops i) (sym c.number-in-Ok.ensures i)) ∙ read_at c.list_of.result.now c.number-in-Ok.result c.index-list_of-number.result inside c.index-list_of-number.is in
     let same : can.op ≡ c.index-list_of-number.result = same_op can.op c.index-list_of-number.result (sym can.stands ∙ op) in
-    subst (CanTake c.index_mut.result.now.rows) (ap (λ o. o.effects) same ∙ sym c.items.ensures) can.rows
+    subst (λ d. CanTake (document_of d).schema c.index-list_of-number.result c.index_mut.result.now.store) (sym c.deref-in-Ok.ensures)
+    (subst (λ o. CanTake doc.schema o c.index_mut.result.now.store) same can.store)
 
 pub invariant_of-self : goal.invariant_of-self
 invariant_of-self c =
@@ -94,9 +96,11 @@ invariant_of-self c =
     let inside : c.number-in-Ok.result < length c.list_of.result.now = omega (arith, c.number-in-Ok.ensures, op_inside doc h c.args.site c.args.packet.now applied, ap length ops) in
     let op : slice_get (published doc h (origin c.args.packet.now)) (number c.args.packet.now) ≡ Some c.index-list_of-number.result =
     (λ i. slice_get (sym ops i) (sym c.number-in-Ok.ensures i)) ∙ read_at c.list_of.result.now c.number-in-Ok.result c.index-list_of-number.result inside c.index-list_of-number.is in
-    let rows : c.bring.new.self.rows ≡ with_changes c.index-list_of-number.result.effects c.index_mut.result.now.rows = c.bring.ensures.rows ∙ ap (λ es. with_changes es c.index_mut.result.now.rows) c.items.ensures in
+    let rows : c.bring.new.self.store.tables ≡ applied_all.applied doc.schema c.index-list_of-number.result c.index_mut.result.now.store.tables =
+    subst (λ d. c.bring.new.self.store.tables ≡ applied_all.applied (document_of d).schema c.index-list_of-number.result c.index_mut.result.now.store.tables) c.deref-in-Ok.ensures c.bring.ensures.tables in
+    let fit : TablesFit doc.schema c.bring.new.self.store.tables = subst (λ d. TablesFit (document_of d).schema c.bring.new.self.store.tables) c.deref-in-Ok.ensures c.bring.ensures.kept in
     let kept = keeps_applied doc h (map (λ v. v.items) c.self.inside.published.items) c.self.inside.sites.items c.self.inside.answered (vec_capacity c.self.inside.history) c.args.site c.args.packet.now
-    c.index-list_of-number.result c.index_mut.result.now c.bring.new.self k one most applied op read.at c.bring.ensures.cut rows in
+    c.index-list_of-number.result c.index_mut.result.now c.bring.new.self k one most applied op read.at c.bring.ensures.cut c.bring.ensures.clock rows fit in
     subst (λ g. Keeps doc g (map (λ v. v.items) c.self.inside.published.items) (set c.self.inside.sites.items (c.number.result - 1) c.bring.new.self) c.self.inside.answered (vec_capacity c.push.new.self))
     (sym (ap reverse c.in-Ok.ensures.items ∙ reverse_push c.self.inside.history.items (Apply c.args.site c.args.packet.now)))
     (keeps_room doc (Apply c.args.site c.args.packet.now ∷ h) (map (λ v. v.items) c.self.inside.published.items) (set c.self.inside.sites.items (c.number.result - 1) c.bring.new.self) c.self.inside.answered (vec_capacity c.self.inside.history) (vec_capacity c.push.new.self) c.in-Ok.ensures.capacity

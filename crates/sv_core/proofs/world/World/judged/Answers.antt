@@ -7,7 +7,7 @@ use Rattle.sv_core.specs.World.{delivered}
 use Rattle.sv_core.specs.WorldState.{listed, Stands}
 use Rattle.sv_core.proofs.WorldLaws.{listed_is, read_at, place_site, judged_is, unknown_is}
 use Rattle.sv_core.proofs.RoomLaws.{published_few}
-use Rattle.sv_core.proofs.TakeLaws.{sized}
+use Rattle.sv_core.proofs.MergeLaws.{sized}
 use Rattle.sv_core.proofs.world.World.judged.Goals as goal
 
 pub overflow_cast-result : goal.overflow_cast-result

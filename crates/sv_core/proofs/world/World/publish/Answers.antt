@@ -2,13 +2,15 @@ use Rattle.std.proofs.Common.{◌≡◌, ◌+◌, ◌*◌, ◌≤◌, ◌<◌, �
 use Rattle.std.proofs.lemmas.List.{length-reverse}
 use Rattle.std.specs.Vec.{vec_capacity}
 use Rattle.sv_value.specs.Cuts.{counts, more, origin}
-use Rattle.sv_core.specs.declared.ops.Op.{Op}
+use Rattle.sv_effect.specs.declared.ops.Op.{Op}
+use Rattle.sv_effect.specs.Applied.{applied}
+use Rattle.sv_effect.specs.Commutes.{TablesFit}
 use Rattle.sv_core.specs.Document.{document_of}
 use Rattle.sv_core.specs.History.{History, answered, published}
 use Rattle.sv_core.specs.Legal.{IsNext}
-use Rattle.sv_core.specs.Rows.{CanTake}
+use Rattle.sv_core.specs.Takes.{CanTake}
 use Rattle.sv_core.specs.WorldState.{Keeps, Publishes}
-use Rattle.sv_core.proofs.TakeLaws.{sized}
+use Rattle.sv_core.proofs.MergeLaws.{sized}
 use Rattle.sv_core.proofs.RoomLaws.{length_few, published_few}
 use Rattle.sv_core.proofs.HistoryLaws.{within}
 use Rattle.sv_core.proofs.WorldLaws.{read_at, site_read, list_at, get-map, length-map-items, map-set-items, history_room, reverse_push, keeps_room}
@@ -30,8 +32,8 @@ publish-requires-clause-room c =
     let few : length (published doc h c.args.site) ≤ doc.asks = published_few doc h (sized doc k.sound) k.legal c.args.site in
     subst (λ o. counts c.index_mut.result.now.cut o < 4294967295) (sym packet) (omega (arith, read.stands.cut c.args.site, had, few, k.sound.asks))
 
-pub publish-requires-clause-rows : goal.publish-requires-clause-rows
-publish-requires-clause-rows c =
+pub publish-requires-clause-store : goal.publish-requires-clause-store
+publish-requires-clause-store c =
     let doc = document_of c.self.inside.doc.value in
     let h : History = reverse c.self.inside.history.items in
     let k = c.self.invariant in
@@ -40,7 +42,8 @@ publish-requires-clause-rows c =
     is_news doc h c.args.session c.args.site c.args.op c.args.entry next (subst (λ p. Publishes p.doc p.history c.args.session c.args.site c.args.op c.args.entry) (sym c.self.view_is) c.requires.news) in
     let most : c.args.site ≤ doc.sites = subst (λ p. c.args.site ≤ p.doc.sites) (sym c.self.view_is) c.requires.site in
     let read = site_read doc h (map (λ v. v.items) c.self.inside.published.items) c.self.inside.sites.items c.self.inside.answered (vec_capacity c.self.inside.history) c.args.site c.number.result c.index_mut.result.now k c.number.ensures.value c.number.ensures.from most c.index_mut.ensures.value in
-    subst (λ t. CanTake t c.args.op.effects) (sym read.stands.rows) (can_publish doc h c.args.session c.args.site c.args.op c.args.entry k.sound (next, k.legal) news)
+    subst (λ d. CanTake (document_of d).schema c.args.op c.index_mut.result.now.store) (sym c.deref.ensures)
+    (can_publish doc h c.args.session c.args.site c.args.op c.args.entry c.index_mut.result.now k.sound (next, k.legal) news read.stands)
 
 pub invariant_of-self : goal.invariant_of-self
 invariant_of-self c =
@@ -121,7 +124,9 @@ invariant_of-self-in-Ok c =
     let cut = subst (λ o. (x : ℕ) → counts c.publish.new.self.cut x ≡ more (counts c.index_mut.result.now.cut) o x) packet c.in_ok-publish.ensures.cut in
     let kept : Keeps doc (c.args.entry ∷ h) new_lists sites new_counts (vec_capacity c.self.inside.history) =
     keeps_published doc h lists new_lists c.self.inside.sites.items c.self.inside.answered (vec_capacity c.self.inside.history) c.args.session c.args.site c.args.op c.args.entry c.index_mut.result.now c.publish.new.self
-    c.self.told k next news one most lists_new read.at cut c.in_ok-publish.ensures.rows in
+    c.self.told k next news one most lists_new read.at cut c.in_ok-publish.ensures.clock
+    (subst (λ d. c.publish.new.self.store.tables ≡ applied (document_of d).schema c.args.op c.index_mut.result.now.store.tables) c.deref.ensures c.in_ok-publish.ensures.tables)
+    (subst (λ d. TablesFit (document_of d).schema c.publish.new.self.store.tables) c.deref.ensures c.in_ok-publish.ensures.kept) in
     subst (λ g. Keeps doc g new_lists (set c.self.inside.sites.items (c.number.result - 1) c.publish.new.self) new_counts (vec_capacity c.push.new.self))
     (sym (ap reverse c.in-Ok.ensures.items ∙ reverse_push c.self.inside.history.items c.args.entry))
     (keeps_room doc (c.args.entry ∷ h) new_lists (set c.self.inside.sites.items (c.number.result - 1) c.publish.new.self) new_counts (vec_capacity c.self.inside.history) (vec_capacity c.push.new.self) c.in-Ok.ensures.capacity

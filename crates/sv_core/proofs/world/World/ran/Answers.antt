@@ -16,5 +16,5 @@ returns c =
     read_at c.self.inside.sites.items (c.number.result - 1) c.index.result.now (omega (arith, c.number.ensures.value, c.number.ensures.from, most, k.sites_long)) c.index.ensures in
     let s : Stands doc h c.args.site c.index.result.now =
     subst (λ n. Stands doc h n c.index.result.now) (place_site c.number.result (c.number.result - 1) c.number.ensures.from refl ∙ c.number.ensures.value) (k.sites_are (c.number.result - 1) c.index.result.now state) in
-    let rows : c.index.result.now.rows ≡ tables_at c.args.self.now.doc c.args.self.now.history c.args.site = s.rows ∙ ap (λ p. tables_at p.doc p.history c.args.site) c.self.view_is in
+    let rows : c.index.result.now.store.tables ≡ tables_at c.args.self.now.doc c.args.self.now.history c.args.site = s.rows ∙ ap (λ p. tables_at p.doc p.history c.args.site) c.self.view_is in
     subst (λ t. IfOk c.run.result (λ ran. ran ≡ run_of c.args.request.now t)) rows c.run.ensures

@@ -5,7 +5,7 @@ use Rattle.sv_core.specs.Document.{document_of}
 use Rattle.sv_core.specs.History.{History, answered}
 use Rattle.sv_core.specs.Legal.{IsNext}
 use Rattle.sv_core.specs.WorldState.{Keeps}
-use Rattle.sv_core.proofs.TakeLaws.{sized}
+use Rattle.sv_core.proofs.MergeLaws.{sized}
 use Rattle.sv_core.proofs.RoomLaws.{length_few}
 use Rattle.sv_core.proofs.WorldLaws.{history_room, reverse_push, keeps_room}
 use Rattle.sv_core.proofs.AskLaws.{keeps_reply, count_room}

@@ -1,9 +1,0 @@
-use Rattle.std.proofs.Common.{sym, ap, ◌∙◌}
-use Rattle.std.specs.Prelude.{map}
-use Rattle.std.specs.FinMap.{entries}
-use Rattle.sv_core.specs.Rows.{entry_of}
-use Rattle.sv_core.proofs.RowLaws.{entries-tables_in}
-use Rattle.sv_core.proofs.rows.Rows.kept.Goals as goal
-
-pub returns : goal.returns
-returns c = ap (map entry_of) c.deref.ensures.value ∙ sym (entries-tables_in c.self.inside.kept.items c.self.invariant) ∙ ap entries c.self.view_is

@@ -1,0 +1,154 @@
+ghost use Rattle.std.specs.Prelude.{◌≡◌, ◌<◌, ◌≤◌, ◌++◌, ◌∷◌, [], OnOk, IfOk, length, Some, None, map};
+ghost use Rattle.sv_app.specs.Schema.{declaration_of};
+ghost use Rattle.sv_app.specs.Tables.{Tables};
+ghost use Rattle.sv_app.specs.Trees.{sets_of};
+ghost use Rattle.sv_effect.specs.Run.{changed, row_with, updated, inserted, removed};
+ghost use Rattle.sv_effect.specs.RunChanges.{kept_values, with_writes, stands};
+ghost use Rattle.sv_interp.specs.Machine.{own_row, own_rows, stand, flow_of};
+
+use crate::inserts::{in_order, inserts, zeros};
+use crate::looks::copy_values;
+use crate::states::{OwnRow, State};
+use crate::writes::{make_writes, sets_made};
+use arrayvec::ArrayVec;
+use std::alloc::Global;
+use sv_app::{Act, Expr, Got, Ident, Place, Table};
+use sv_effect::{Outcome, RowEffect, Write};
+use sv_value::{List, NoMemory, Val};
+
+/// The writes, as a change carries them.
+fn carried(writes: &[(u16, Write)]) -> Result<ArrayVec<(u16, Write), 16>, NoMemory>
+    ensures { IfOk result (λ carried. carried.items ≡ writes.now) }
+{
+    let mut carried = ArrayVec::new();
+    for write in writes {
+        if carried.try_push(*write).is_err() {
+            return Err(NoMemory);
+        }
+    }
+    Ok(carried)
+}
+
+/// Makes a change that leaves this row; the 65th ends the run.
+fn change(
+    state: &mut State,
+    place: &Place,
+    act: Act,
+    writes: &[(u16, Write)],
+    row: OwnRow,
+) -> Result<Option<Outcome>, NoMemory>
+    ensures { IfOk result (λ end. (t : Tables) → changed (record { place = place.now; act = act; writes = writes.now; instance = state.old.scope.progress.number }) (own_row row) (stand t state.old) ≡ flow_of end (stand t state.new)) }
+{
+    if state.effects.len() >= 64 {
+        return Ok(Some(Outcome::TooLarge));
+    }
+    let effect = RowEffect {
+        table: place.table,
+        key: place.key,
+        act,
+        writes: carried(writes)?,
+        instance: state.scope.progress.number,
+    };
+    state.effects.push(effect)?;
+    state.own.insert(0, (*place, row))?;
+    Ok(None)
+}
+
+/// The values after the writes.
+fn with_writes(values: List<Got>, writes: &[(u16, Write)]) -> Result<List<Got>, NoMemory>
+    ensures { IfOk result (λ row. row ≡ with_writes writes.now values) }
+{
+    let mut row = values.into_vec();
+    make_writes(&mut row, writes)?;
+    Ok(List::from_vec(row))
+}
+
+/// Updates a row.
+pub fn update_row(
+    alloc: Global,
+    table: &Table,
+    place: &Place,
+    sets: &[(Ident, Expr)],
+    row: OwnRow,
+    state: &mut State,
+) -> Result<Option<Outcome>, NoMemory>
+    ensures { IfOk result (λ end. (t : Tables) → updated (declaration_of table.now) place.now (sets_of sets.now) (stand t state.old) (own_row row) ≡ flow_of end (stand t state.new)) }
+{
+    state.start_update(alloc, copy_values(alloc, row.values.items())?);
+    let Some(made) = sets_made(alloc, &table.columns, sets, &mut state.scope)? else {
+        return Ok(Some(Outcome::Range));
+    };
+    let writes = in_order(alloc, table, 0, &table.columns, made.items())?;
+    let values = with_writes(row.values, writes.items())?;
+    let left = OwnRow {
+        values,
+        present: true,
+    };
+    change(state, place, Act::Update, writes.items(), left)
+}
+
+/// The values that an insert finds.
+fn kept_values(
+    alloc: Global,
+    table: &Table,
+    place: &Place,
+    row: Option<OwnRow>,
+) -> Result<List<Got>, NoMemory>
+    ensures { IfOk result (λ kept. kept ≡ kept_values (declaration_of table.now) place.now.key (own_rows row)) }
+{
+    match row {
+        Some(row) => Ok(row.values),
+        None => zeros(alloc, table, &place.key),
+    }
+}
+
+fn stands(row: &Option<OwnRow>) -> bool
+    ensures { result ≡ stands (own_rows row.now) }
+{
+    match row {
+        Some(row) => row.present,
+        None => false,
+    }
+}
+
+/// Inserts a row, where none is present.
+pub fn insert_row(
+    alloc: Global,
+    table: &Table,
+    place: &Place,
+    vals: &[Val],
+    row: Option<OwnRow>,
+    state: &mut State,
+) -> Result<Option<Outcome>, NoMemory>
+    ensures { IfOk result (λ end. (t : Tables) → inserted (declaration_of table.now) place.now vals.now (own_rows row) (stand t state.old) ≡ flow_of end (stand t state.new)) }
+{
+    if stands(&row) {
+        return Ok(Some(Outcome::Exists));
+    }
+    let kept = kept_values(alloc, table, place, row)?;
+    let Some(writes) = inserts(alloc, table, vals, kept.items(), 0, &table.columns, &mut state.scope)?
+    else {
+        return Ok(Some(Outcome::Range));
+    };
+    let values = with_writes(kept, writes.items())?;
+    let left = OwnRow {
+        values,
+        present: true,
+    };
+    change(state, place, Act::Insert, writes.items(), left)
+}
+
+/// Removes a row: it is kept, and no longer present.
+pub fn remove_row(
+    place: &Place,
+    row: OwnRow,
+    state: &mut State,
+) -> Result<Option<Outcome>, NoMemory>
+    ensures { IfOk result (λ end. (t : Tables) → removed place.now (stand t state.old) (own_row row) ≡ flow_of end (stand t state.new)) }
+{
+    let left = OwnRow {
+        values: row.values,
+        present: false,
+    };
+    change(state, place, Act::Remove, &[], left)
+}

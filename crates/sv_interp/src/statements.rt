@@ -1,0 +1,226 @@
+ghost use Rattle.std.specs.Prelude.{◌≡◌, IfOk, Err, false, List, slice_get};
+ghost use Rattle.std.specs.FinMap.{get};
+ghost use Rattle.sv_app.specs.Schema.{Declaration, declaration_of};
+ghost use Rattle.sv_app.specs.Tables.{Tables};
+ghost use Rattle.sv_app.specs.Trees.{term_of, terms_of, sets_of, Declare, Fetch, Insert, Update, Remove, Reply};
+ghost use Rattle.sv_effect.specs.declared.reads.Ask.{Ask as AskValue};
+ghost use Rattle.sv_effect.specs.declared.reads.Halt.TheVariants as halt;
+ghost use Rattle.sv_effect.specs.Run.{run_command, on_present, inserted, updated, Setting as RunSetting};
+ghost use Rattle.sv_interp.specs.Machine.{declared, stand, flow_of, setting_of, Runs};
+
+use crate::changes::{insert_row, remove_row, update_row};
+use crate::inserts::{key_in, key_of, values};
+use crate::looks::look;
+use crate::states::{Setting, State};
+use crate::values::value;
+use std::alloc::Global;
+use sv_app::{Expr, Ident, Place, Table};
+use sv_effect::{Halt, Outcome, Rows};
+use sv_value::{NoMemory, Val};
+
+/// Gives a variable the value of an expression.
+pub fn run_let(var: Ident, expr: &Expr, state: &mut State) -> Result<Option<Outcome>, NoMemory>
+    ensures { IfOk result (λ end. (g : RunSetting) (t : Tables) → run_command g (Declare var (term_of expr.now)) (stand t state.old) ≡ flow_of end (stand t state.new)) }
+{
+    let Some(val) = value(expr, &mut state.scope)? else {
+        return Ok(Some(Outcome::Range));
+    };
+    state.set(var.num, &val)?;
+    Ok(None)
+}
+
+/// Gives a reply.
+pub fn run_reply(expr: &Expr, state: &mut State) -> Result<Option<Outcome>, NoMemory>
+    ensures { IfOk result (λ end. (g : RunSetting) (t : Tables) → run_command g (Reply (term_of expr.now)) (stand t state.old) ≡ flow_of end (stand t state.new)) }
+{
+    let Some(val) = value(expr, &mut state.scope)? else {
+        return Ok(Some(Outcome::Range));
+    };
+    state.reply(&val)
+}
+
+/// Binds a row variable to a row, which has to be present.
+#[tactic(auto, using(crate::proofs::RunLaws::steps))]
+pub fn run_get<R: Rows>(
+    alloc: Global,
+    setting: &Setting<'_>,
+    row: Ident,
+    table: Ident,
+    key: &[Expr],
+    state: &mut State,
+    rows: &mut R,
+) -> Result<Option<Outcome>, Halt>
+    ensures ran { IfOk result (λ end. Runs (run_command (setting_of setting.now) (Fetch row table (terms_of key.now))) (R.tables rows.old) (R.tables rows.new) (R.noted rows.old) (R.noted rows.new) state.old end state.new) }
+    ensures same_app { (schema : List Declaration) → R.is_of rows.old schema → R.is_of rows.new schema }
+    ensures same_tables { R.tables rows.new ≡ R.tables rows.old }
+    ensures same_knows { R.knows rows.new ≡ R.knows rows.old }
+    ensures missing { (a : AskValue) → result ≡ Err (halt.Missing a) → R.knows rows.old a ≡ false }
+{
+    let Some(vals) = values(alloc, key, &mut state.scope)? else {
+        return Ok(Some(Outcome::Range));
+    };
+    let place = Place {
+        table: table.num,
+        key: key_of(vals.items()),
+    };
+    match look(alloc, &state.own, rows, &place)? {
+        None => Ok(Some(Outcome::NoRow)),
+        Some(found) => {
+            if !found.present {
+                return Ok(Some(Outcome::NoRow));
+            }
+            state.bind(alloc, row.num, found.values)?;
+            Ok(None)
+        }
+    }
+}
+
+/// The table of that number.
+fn table_at<'a>(setting: &Setting<'a>, number: u16) -> Option<&'a Table>
+    ensures { slice_get (setting_of setting.now).schema number ≡ declared result }
+{
+    setting.tables.get(number as usize)
+}
+
+#[tactic(auto, using(crate::proofs::RunLaws::steps))]
+fn insert_at<R: Rows>(
+    alloc: Global,
+    table: &Table,
+    place: &Place,
+    vals: &[Val],
+    state: &mut State,
+    rows: &mut R,
+) -> Result<Option<Outcome>, Halt>
+    ensures ran { IfOk result (λ end. Runs (λ st. inserted (declaration_of table.now) place.now vals.now (get st.tables place.now) st) (R.tables rows.old) (R.tables rows.new) (R.noted rows.old) (R.noted rows.new) state.old end state.new) }
+    ensures same_app { (schema : List Declaration) → R.is_of rows.old schema → R.is_of rows.new schema }
+    ensures same_tables { R.tables rows.new ≡ R.tables rows.old }
+    ensures same_knows { R.knows rows.new ≡ R.knows rows.old }
+    ensures missing { (a : AskValue) → result ≡ Err (halt.Missing a) → R.knows rows.old a ≡ false }
+{
+    let found = look(alloc, &state.own, rows, place)?;
+    let end = insert_row(alloc, table, place, vals, found, state)?;
+    Ok(end)
+}
+
+/// Inserts a row, where none is present.
+#[tactic(auto, using(crate::proofs::RunLaws::steps))]
+pub fn run_insert<R: Rows>(
+    alloc: Global,
+    setting: &Setting<'_>,
+    table: Ident,
+    exprs: &[Expr],
+    state: &mut State,
+    rows: &mut R,
+) -> Result<Option<Outcome>, Halt>
+    ensures ran { IfOk result (λ end. Runs (run_command (setting_of setting.now) (Insert table (terms_of exprs.now))) (R.tables rows.old) (R.tables rows.new) (R.noted rows.old) (R.noted rows.new) state.old end state.new) }
+    ensures same_app { (schema : List Declaration) → R.is_of rows.old schema → R.is_of rows.new schema }
+    ensures same_tables { R.tables rows.new ≡ R.tables rows.old }
+    ensures same_knows { R.knows rows.new ≡ R.knows rows.old }
+    ensures missing { (a : AskValue) → result ≡ Err (halt.Missing a) → R.knows rows.old a ≡ false }
+{
+    let Some(vals) = values(alloc, exprs, &mut state.scope)? else {
+        return Ok(Some(Outcome::Range));
+    };
+    let Some(declared) = table_at(setting, table.num) else {
+        return Ok(Some(Outcome::NoRow));
+    };
+    let place = Place {
+        table: table.num,
+        key: key_in(alloc, &declared.key, vals.items())?,
+    };
+    let end = insert_at(alloc, declared, &place, vals.items(), state, rows)?;
+    Ok(end)
+}
+
+#[tactic(auto, using(crate::proofs::RunLaws::steps))]
+fn update_at<R: Rows>(
+    alloc: Global,
+    table: &Table,
+    place: &Place,
+    sets: &[(Ident, Expr)],
+    state: &mut State,
+    rows: &mut R,
+) -> Result<Option<Outcome>, Halt>
+    ensures ran { IfOk result (λ end. Runs (λ st. on_present (get st.tables place.now) (updated (declaration_of table.now) place.now (sets_of sets.now) st)) (R.tables rows.old) (R.tables rows.new) (R.noted rows.old) (R.noted rows.new) state.old end state.new) }
+    ensures same_app { (schema : List Declaration) → R.is_of rows.old schema → R.is_of rows.new schema }
+    ensures same_tables { R.tables rows.new ≡ R.tables rows.old }
+    ensures same_knows { R.knows rows.new ≡ R.knows rows.old }
+    ensures missing { (a : AskValue) → result ≡ Err (halt.Missing a) → R.knows rows.old a ≡ false }
+{
+    match look(alloc, &state.own, rows, place)? {
+        None => Ok(Some(Outcome::NoRow)),
+        Some(found) => {
+            if !found.present {
+                return Ok(Some(Outcome::NoRow));
+            }
+            let end = update_row(alloc, table, place, sets, found, state)?;
+            Ok(end)
+        }
+    }
+}
+
+/// Updates a row, which has to be present.
+#[tactic(auto, using(crate::proofs::RunLaws::steps))]
+pub fn run_update<R: Rows>(
+    alloc: Global,
+    setting: &Setting<'_>,
+    table: Ident,
+    key: &[Expr],
+    sets: &[(Ident, Expr)],
+    state: &mut State,
+    rows: &mut R,
+) -> Result<Option<Outcome>, Halt>
+    ensures ran { IfOk result (λ end. Runs (run_command (setting_of setting.now) (Update table (terms_of key.now) (sets_of sets.now))) (R.tables rows.old) (R.tables rows.new) (R.noted rows.old) (R.noted rows.new) state.old end state.new) }
+    ensures same_app { (schema : List Declaration) → R.is_of rows.old schema → R.is_of rows.new schema }
+    ensures same_tables { R.tables rows.new ≡ R.tables rows.old }
+    ensures same_knows { R.knows rows.new ≡ R.knows rows.old }
+    ensures missing { (a : AskValue) → result ≡ Err (halt.Missing a) → R.knows rows.old a ≡ false }
+{
+    let Some(vals) = values(alloc, key, &mut state.scope)? else {
+        return Ok(Some(Outcome::Range));
+    };
+    let Some(declared) = table_at(setting, table.num) else {
+        return Ok(Some(Outcome::NoRow));
+    };
+    let place = Place {
+        table: table.num,
+        key: key_of(vals.items()),
+    };
+    let end = update_at(alloc, declared, &place, sets, state, rows)?;
+    Ok(end)
+}
+
+/// Removes a row, which has to be present.
+#[tactic(auto, using(crate::proofs::RunLaws::steps))]
+pub fn run_remove<R: Rows>(
+    alloc: Global,
+    setting: &Setting<'_>,
+    table: Ident,
+    key: &[Expr],
+    state: &mut State,
+    rows: &mut R,
+) -> Result<Option<Outcome>, Halt>
+    ensures ran { IfOk result (λ end. Runs (run_command (setting_of setting.now) (Remove table (terms_of key.now))) (R.tables rows.old) (R.tables rows.new) (R.noted rows.old) (R.noted rows.new) state.old end state.new) }
+    ensures same_app { (schema : List Declaration) → R.is_of rows.old schema → R.is_of rows.new schema }
+    ensures same_tables { R.tables rows.new ≡ R.tables rows.old }
+    ensures same_knows { R.knows rows.new ≡ R.knows rows.old }
+    ensures missing { (a : AskValue) → result ≡ Err (halt.Missing a) → R.knows rows.old a ≡ false }
+{
+    let Some(vals) = values(alloc, key, &mut state.scope)? else {
+        return Ok(Some(Outcome::Range));
+    };
+    let place = Place {
+        table: table.num,
+        key: key_of(vals.items()),
+    };
+    match look(alloc, &state.own, rows, &place)? {
+        None => Ok(Some(Outcome::NoRow)),
+        Some(found) => {
+            if !found.present {
+                return Ok(Some(Outcome::NoRow));
+            }
+            let end = remove_row(&place, found, state)?;
+            Ok(end)
+        }
+    }
+}

@@ -1,0 +1,9 @@
+pub mod Documents
+pub mod Elements
+pub mod Fits
+pub mod Grammar
+pub mod InitRefused
+pub mod LastRefused
+pub mod Reading
+pub mod Rows
+pub mod Written

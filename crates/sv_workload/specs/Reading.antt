@@ -1,0 +1,123 @@
+-- Reading the parts of a document from left to right: what some tokens begin with, and the tokens behind it.
+use Rattle.std.specs.Prelude.{ℕ, ℤ, pos, neg_ℤ, Bool, true, false, not, ◌&&◌, ◌==◌, nat_le, length, drop, if◌then◌else◌, List, [], ◌∷◌, ◌++◌, Option, Some, None, Ok, Err, int_le, codes}
+use Rattle.std.specs.List.{list_any}
+use Rattle.sv_value.specs.declared.values.Val.{Val}
+use Rattle.sv_value.specs.declared.values.Val.TheVariants as vals
+use Rattle.sv_lex.specs.declared.marks.Mark.TheVariants.{LeftParen, Semi, Minus, Percents}
+use Rattle.sv_lex.specs.declared.tokens.Token.{Token}
+use Rattle.sv_lex.specs.declared.tokens.TokenKind.{TokenKind}
+use Rattle.sv_lex.specs.declared.tokens.TokenKind.TheVariants.{Name, Number, Mark}
+use Rattle.sv_app.specs.declared.apps.Ident.{Ident}
+use Rattle.sv_app.specs.declared.refusals.Code.{Code}
+use Rattle.sv_app.specs.declared.refusals.Code.TheVariants.{Unknown, Twice, Typing, Many}
+use Rattle.sv_app.specs.declared.requests.InitRow.{InitRow}
+use Rattle.sv_app.specs.declared.schemas.Column.{Column}
+use Rattle.sv_app.specs.declared.schemas.Ty.{Ty}
+use Rattle.sv_app.specs.declared.schemas.Ty.TheVariants as types
+use Rattle.sv_app.specs.Lookups.{table_of}
+use Rattle.sv_app.specs.Schema.{Declaration}
+use Rattle.sv_effect.specs.TablesOfCut.{init_place, is_place}
+use Rattle.sv_schema_reader.specs.declared.faults.Fault.{Fault}
+use Rattle.sv_schema_reader.specs.Reading.{Read, ◌>>=◌, is_kind, is_next, given, token_at, kind_at, name_at, name_of, is_name, text_of, is_text, list_at, turns_at}
+use Rattle.sv_workload.specs.declared.written.Row.{Row}
+use Rattle.sv_workload.specs.Rows.{init_row}
+
+-- a fault that is known before anything is read comes first
+abbrev pub settled : {A : Type 0} → Option Fault → Read A → Read A
+settled None read = read
+settled (Some fault) read = Err fault
+
+-- a fault at the first token
+abbrev pub at_front : Option Code → List Token → Option Fault
+at_front None tokens = None
+at_front (Some code) tokens = Some (record { code = code; left = length tokens })
+
+-- the first of two, if there is one
+abbrev pub or_else : {A : Type 0} → Option A → Option A → Option A
+or_else None second = second
+or_else (Some a) second = Some a
+
+-- a number, which has no sign
+abbrev pub natural_of : TokenKind → Option ℤ
+natural_of (Number z) = given (int_le (pos 0) z) z
+natural_of _ = None
+
+abbrev pub natural_at : List Token → Read ℤ
+natural_at = token_at (λ token. natural_of token.kind)
+
+unfoldable pub integer_at : List Token → Read ℤ
+integer_at tokens = if is_next (Mark Minus) tokens then (kind_at (Mark Minus) tokens >>= λ _ r1. natural_at r1 >>= λ z r2. Ok (neg_ℤ z, r2)) else natural_at tokens
+
+unfoldable pub value_at : List Token → Read Val
+value_at tokens = if is_text tokens then (token_at text_of tokens >>= λ t r. Ok (vals.Text t, r)) else (integer_at tokens >>= λ z r. Ok (vals.Int z, r))
+
+-- one more value
+unfoldable pub value_step : List Val → List Token → Read (List Val)
+value_step vs tokens = value_at tokens >>= λ v r. Ok (vs ++ v ∷ [], r)
+
+unfoldable pub row_at : List Token → Read Row
+row_at tokens =
+    name_at tokens >>= λ table r1. kind_at (Mark LeftParen) r1 >>= λ _ r2. list_at value_step [] r2 >>= λ vs r3. kind_at (Mark Semi) r3 >>= λ _ r4.
+    Ok (record { table = table; values = vs }, r4)
+
+abbrev pub has_type : Ty → Val → Bool
+has_type types.Int (vals.Int n) = true
+has_type types.Text (vals.Text t) = true
+has_type _ _ = false
+
+-- a value of its type for each column
+abbrev pub values_fit : List Column → List Val → Bool
+values_fit [] [] = true
+values_fit (column ∷ columns) (v ∷ vs) = has_type column.ty v && values_fit columns vs
+values_fit _ _ = false
+
+-- a row stands at the place of this one
+abbrev pub repeated : List InitRow → InitRow → Bool
+repeated rows row = list_any (λ other. is_place (init_place other) (init_place row)) rows
+
+-- what is wrong with a row of the table, behind these rows
+abbrev pub row_fault : List Declaration → Declaration → List InitRow → Row → Option Code
+row_fault schema table rows r =
+    if not (length r.values == length table.columns) then Some Typing
+    else if repeated rows (init_row schema r) then Some Twice
+    else if values_fit table.columns r.values then None
+    else Some Typing
+
+-- no row may stand behind so many
+abbrev pub crowded : List InitRow → Option Code
+crowded rows = given (nat_le 4096 (length rows)) Many
+
+-- what is wrong where a row begins, by its table, if there is one, and by what is read of it
+abbrev pub row_code : List Declaration → Option Declaration → List InitRow → Read Row → Option Code
+row_code schema None rows read = Some Unknown
+row_code schema (Some table) rows (Ok read) = or_else (row_fault schema table rows read.0) (crowded rows)
+row_code schema (Some table) rows (Err fault) = crowded rows
+
+abbrev pub meant : List Declaration → Option Ident → Option Declaration
+meant schema None = None
+meant schema (Some ident) = table_of schema ident
+
+-- the table that the first token names
+abbrev pub table_meant : List Declaration → List Token → Option Declaration
+table_meant schema [] = None
+table_meant schema (token ∷ others) = meant schema (name_of token)
+
+-- the row that begins here, behind these rows
+unfoldable pub row_from : List Declaration → List InitRow → List Token → Read Row
+row_from schema rows tokens = settled (at_front (row_code schema (table_meant schema tokens) rows (row_at tokens)) tokens) (row_at tokens)
+
+abbrev pub row_step : List Declaration → List InitRow → List Token → Read (List InitRow)
+row_step schema rows tokens = row_from schema rows tokens >>= λ r rest. Ok (rows ++ init_row schema r ∷ [], rest)
+
+-- all rows that stand here
+abbrev pub rows_from : List Declaration → List InitRow → List Token → Read (List InitRow)
+rows_from schema = turns_at is_name (row_step schema) (λ rows tokens. Ok (rows, tokens))
+
+-- "%%" "init" stands here
+abbrev pub begins_init : List Token → Bool
+begins_init (mark ∷ word ∷ others) = is_kind (Mark Percents) mark.kind && is_kind (Name (codes "init")) word.kind
+begins_init _ = false
+
+-- the initial rows that stand here, if any
+unfoldable pub init_from : List Declaration → List Token → Read (List InitRow)
+init_from schema tokens = if begins_init tokens then rows_from schema [] (drop 2 tokens) else Ok ([], tokens)

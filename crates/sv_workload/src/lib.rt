@@ -1,0 +1,12 @@
+//! Reads the initial rows of a document and what is to be done with it, or says where and why it is refused.
+#![tactic(auto)]
+
+mod parts;
+mod reading;
+mod rows;
+mod values;
+mod written;
+
+pub use parts::{Parts, Step, Work};
+pub use reading::read_parts;
+pub use written::{Call, Row};
