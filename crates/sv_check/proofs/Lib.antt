@@ -12,6 +12,7 @@ pub mod ListLaws
 pub mod RuleLaws
 pub mod SetLaws
 pub mod SlotLaws
+pub mod StartLaws
 pub mod TableLaws
 pub mod ValueLaws
 pub mod VerdictLaws

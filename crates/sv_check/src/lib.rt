@@ -7,6 +7,7 @@ mod changes;
 mod clashes;
 mod initial;
 mod keys;
+mod laws;
 mod least;
 mod left;
 mod rules;
@@ -15,4 +16,5 @@ mod writes;
 
 pub use after::check_after;
 pub use initial::check_all;
+pub use laws::stores_start;
 pub use verdicts::Verdict;
