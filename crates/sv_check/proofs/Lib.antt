@@ -10,6 +10,7 @@ pub mod LeastLaws
 pub mod LeftLaws
 pub mod ListLaws
 pub mod RuleLaws
+pub mod SampleLaws
 pub mod SetLaws
 pub mod SlotLaws
 pub mod StartLaws

@@ -11,6 +11,8 @@ mod laws;
 mod least;
 mod left;
 mod rules;
+#[cfg(test)]
+mod tests;
 mod verdicts;
 mod writes;
 
