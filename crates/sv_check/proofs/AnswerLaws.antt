@@ -104,8 +104,8 @@ rule_holds schema init table inv rule key row from is same passed = split rule s
         let second : IsInitial init (place_at from.from.table other) with_it = kept_from init (place_at from.from.table other) with_it kept in
         sym (ap (λ p. p.key) second.place)
         ∙ two_differ schema init from.number second.number from.from second.from inv column is e from.at second.at none_here
-          (passed second.number second.from (slice_get_within init second.number second.from second.at) second.at) (ap (λ p. p.table) second.place)
-          (ap (λ r. value_of r column) (sym second.is) ∙ equal)
+        (passed second.number second.from (slice_get_within init second.number second.from second.at) second.at) (ap (λ p. p.table) second.place)
+        (ap (λ r. value_of r column) (sym second.is) ∙ equal)
 
 pub all_valid : (schema : List Declaration) (init : List InitRow) → Passed schema init (length init) → Valid schema (initial_tables init)
 all_valid schema init passed = record {
@@ -204,7 +204,7 @@ is_first schema init i row number accepted passed at is = record {
     order other n broken (inr (inl same)) = inr (same, lowest n (subst (λ k. BreaksAt schema init k n) (sym same) broken))
     order other n broken (inr (inr less)) =
         absurd (unbroken schema init other broken.row broken.inv broken.inv.rule broken.declared refl
-          (test_false schema init other broken.row broken.inv (passed other broken.row less broken.stands) broken.declared) broken.fails)
+        (test_false schema init other broken.row broken.inv (passed other broken.row less broken.stands) broken.declared) broken.fails)
 
 -- tables in which a row breaks an invariant aren't valid
 pub not_valid : (schema : List Declaration) (init : List InitRow) (i number : ℕ) → AreDistinct init → BreaksAt schema init i number → Valid schema (initial_tables init) → ⊥
@@ -216,7 +216,7 @@ not_valid schema init i number distinct broken valid = split broken.inv.rule bro
     split (Refers column parent target) failed holds = failed holds
     split (Different column) failed holds =
         let kept : IsKept (initial_tables init) broken.row.table failed.other.key (initial_row failed.other) =
-          ap (λ n. get (initial_tables init) (place_at n failed.other.key)) (sym failed.beside) ∙ kept_at init failed.earlier failed.other distinct failed.stands in
+        ap (λ n. get (initial_tables init) (place_at n failed.other.key)) (sym failed.beside) ∙ kept_at init failed.earlier failed.other distinct failed.stands in
         let same : failed.other.key ≡ broken.row.key = holds refl failed.other.key (initial_row failed.other) kept refl failed.equal in
         one_place init failed.earlier i failed.other broken.row distinct failed.stands broken.stands failed.before (λ k. place_at (failed.beside k) (same k))
 

@@ -100,7 +100,7 @@ pub says_listed : (o n : Option Tables) (a b : Option (List ReadValue)) (schema 
     → n ≡ o → b ≡ a → body ≡ bodies.List column texts → got ≡ value_of (left_row row) column → passes ≡ is_listed got texts.items → Follows o n a b (RowSays schema left place (left_row row) (rule_of body) (not passes))
 says_listed o n a b schema left place row body column texts got passes same stands is value e =
     quiet o n a b _ same stands (λ t after at. subst (λ x. Says (not passes) (Holds schema (over left t) place.table (rule_of x) place.key (left_row row) → ⊥)) (sym is)
-      (split passes (sym (e ∙ ap (λ g. is_listed g texts.items) value))))
+    (split passes (sym (e ∙ ap (λ g. is_listed g texts.items) value))))
   where
     split : (r : Bool) → is_listed (value_of (left_row row) column) texts.items ≡ r → Says (not r) (IsListed (value_of (left_row row) column) texts.items → ⊥)
     split true h = λ broken. broken (listed (value_of (left_row row) column) texts.items h)
@@ -112,7 +112,7 @@ pub says_unbound : (o n : Option Tables) (a b : Option (List ReadValue)) (schema
     → Follows o n a b (RowSays schema left place (left_row row) (rule_of body) false)
 says_unbound o n a b schema left place row body column parent target bound same stands is binds e =
     quiet o n a b _ same stands (λ t after at. subst (λ x. Says false (Holds schema (over left t) place.table (rule_of x) place.key (left_row row) → ⊥)) (sym is)
-      (λ broken. broken (λ h. absurd (subst (λ r. Says r (Binds (slice_get schema parent.num) row.present)) e binds h))))
+    (λ broken. broken (λ h. absurd (subst (λ r. Says r (Binds (slice_get schema parent.num) row.present)) e binds h))))
 
 -- one that does
 pub says_referring : (o n : Option Tables) (a b : Option (List ReadValue)) (schema : List Declaration) (left : List (Place × LeftRow)) (place to : Place) (row : LeftRow) (inv : Inv) (column parent target : Ident)

@@ -31,9 +31,9 @@ pub one_paired : (o m n : Option Tables) (a b c : Option (List ReadValue)) (left
     → new ≡ old ++ values_of column key (left_rows row) → Follows o n a c (λ t. new ≡ values_at (over left t) table column (take (i + 1) keys))
 one_paired o m n a b c left table column keys i key row old new less is f g more =
     next_to o m n a b c _ _ _ f g (λ t before looked.
-      more ∙ (λ j. before j ++ values_of column key (sym looked j))
-      ∙ ap (λ k. values_at (over left t) table column (take i keys) ++ values_of column k (get (over left t) (place_at table k))) is
-      ∙ flat_more (λ k. values_of column k (get (over left t) (place_at table k))) keys i key less)
+    more ∙ (λ j. before j ++ values_of column key (sym looked j))
+    ∙ ap (λ k. values_at (over left t) table column (take i keys) ++ values_of column k (get (over left t) (place_at table k))) is
+    ∙ flat_more (λ k. values_of column k (get (over left t) (place_at table k))) keys i key less)
 
 pub all_paired : (o n : Option Tables) (a b : Option (List ReadValue)) (left : List (Place × LeftRow)) (table : ℕ) (column : Ident) (keys : List Key) (i : ℕ) (pairs : List Pair) → length keys ≤ i
     → Follows o n a b (λ t. pairs ≡ values_at (over left t) table column (take i keys)) → Follows o n a b (λ t. pairs ≡ values_at (over left t) table column keys)

@@ -101,8 +101,10 @@ one_looked o m n a b c schema left table rule keys i key found new broken less i
     by : (t : Tables) (r : Bool) → IsLeast (Both t (take i keys)) found → Says r (BrokenAt schema (over left t) table rule key) → IsLeast (Both t (take (i + 1) keys)) (cond r (lesser found (Some key)) found)
     by t true before says = least_same (λ k. Both t (take i keys) k ⊎ (k ≡ key)) (Both t (take (i + 1) keys)) (lesser found (Some key))
         (least_both (Both t (take i keys)) (λ k. k ≡ key) found (Some key) before (least_one key))
-        (λ k either. ⊎_elim (to t k) (λ s. (has_more k keys i key less is ∙ second_of (has_key k (take i keys)) (eq_by_cmp key_cmp k key) (ap (λ z. eq_by_cmp key_cmp z key) s ∙ key_itself key),
-          subst (BrokenAt schema (over left t) table rule) (sym s) says)) either)
+        (λ k either. ⊎_elim (to t k) (λ s. (
+          has_more k keys i key less is ∙ second_of (has_key k (take i keys)) (eq_by_cmp key_cmp k key) (ap (λ z. eq_by_cmp key_cmp z key) s ∙ key_itself key),
+          subst (BrokenAt schema (over left t) table rule) (sym s) says,
+        )) either)
         (λ k h. ⊎_elim (λ x. inl x) (λ x. inr x.0) (from t k h))
     by t false before says = least_same (Both t (take i keys)) (Both t (take (i + 1) keys)) found before (to t)
         (λ k h. ⊎_elim (λ x. x) (λ x. absurd (says (subst (BrokenAt schema (over left t) table rule) x.0 x.1))) (from t k h))
@@ -335,7 +337,7 @@ clash_least schema left t table column keys pairs found candidates is least afte
               value = value_of broken.row column;
               at = mine.at;
               other = any_at (λ p. same_got p.1 (value_of broken.row column) && not (is_eq (key_cmp p.0 k))) pairs its.number (other, value_of with_it column) its.at
-                (both_true (same_got (value_of with_it column) (value_of broken.row column)) (not (is_eq (key_cmp other k)))
+                  (both_true (same_got (value_of with_it column) (value_of broken.row column)) (not (is_eq (key_cmp other k)))
                   (ap (λ g. same_got g (value_of broken.row column)) equal ∙ values_same (value_of broken.row column)) (negates (is_eq (key_cmp other k)) e));
             }))
 
@@ -352,6 +354,6 @@ pub clash_broken : (o m n : Option Tables) (a b c : Option (List ReadValue)) (sc
     → Follows m n b c (λ t. pairs ≡ values_at (over left t) table column keys) → IsLeast (Clashes pairs) found → Follows o n a c (LeastBroken schema left table (rule_of body) found)
 clash_broken o m n a b c schema left table body column walk keys pairs found f is unique g least =
     next_to o m n a b c _ _ _ f g (λ t candidates pairs_are. subst (λ x. LeastBroken schema left table (rule_of x) found t) (sym unique)
-      (clash_least schema left t table column keys pairs found (subst (λ w. AreCandidates w left table keys t) (is ∙ ap (λ x. walks (rule_of x) left) unique) candidates) pairs_are least))
+    (clash_least schema left t table column keys pairs found (subst (λ w. AreCandidates w left table keys t) (is ∙ ap (λ x. walks (rule_of x) left) unique) candidates) pairs_are least))
 
 pub ruleset breaking = (own_broken, clash_broken)

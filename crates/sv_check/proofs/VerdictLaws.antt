@@ -295,7 +295,7 @@ one_grown schema e t fits found grown table declaration key row declared grows k
         let kind : fits.table ≡ declaration = same_some (slice_get schema table) fits.table declaration (ap (λ p. slice_get schema p.table) here ∙ fits.declared) declared in
         ap (λ r. r.present) (sym (same_row (row_after schema (effect_of e) (get t (effect_of e).place)) row is))
         ∙ turned_present e.act declaration.kind (get t (effect_of e).place) grows (subst (λ d. allows d.kind e.act ≡ true) kind fits.fits.allowed) found
-          (λ old at. grown table declaration key old declared grows (ap (get t) here ∙ at))
+        (λ old at. grown table declaration key old declared grows (ap (get t) here ∙ at))
 
 pub still_grown : (schema : List Declaration) (es : List RowEffect) (t : Tables) → AllFit schema es → FindsAll schema (map effect_of es) t → AreGrown schema t → AreGrown schema (with_effects schema (map effect_of es) t)
 still_grown schema [] t fits found grown = grown

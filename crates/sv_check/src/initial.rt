@@ -16,10 +16,10 @@ ghost use Rattle.sv_check.specs.declared.initial.Held.{Held as HeldValue};
 ghost use Rattle.sv_check.specs.Initial.{initial_row, initial_tables, IsAnswer};
 ghost use Rattle.sv_check.specs.Tests.{val_in, held_cmp, held_of, held_by, is_held, is_there, referred, rules_of, fails, first_failed};
 
-use std::alloc::Global;
-use std::collections::BTreeSet;
 use crate::rules::{is_listed, is_within};
 use crate::writes::got_of;
+use std::alloc::Global;
+use std::collections::BTreeSet;
 use sv_app::{App, Got, Ident, InitRow, Inv, InvBody, Place, Table};
 use sv_value::{Key, NoMemory, Val};
 
@@ -181,11 +181,7 @@ fn note(invs: &[Inv], row: &InitRow, earlier: &mut BTreeSet<Held>) -> Result<(),
 /// that it breaks, which is answered before the row. Of two rows with equal values of a unique column the later one
 /// breaks it. It is none exactly where the tables of the initial rows are valid. The application is accepted, the rows
 /// fit it, no two stand at one place, and there are at most 4,096 of them.
-pub fn check_all(
-    alloc: Global,
-    app: &App,
-    init: &[InitRow],
-) -> Result<Option<(u16, u32)>, NoMemory>
+pub fn check_all(alloc: Global, app: &App, init: &[InitRow]) -> Result<Option<(u16, u32)>, NoMemory>
     requires accepted { AcceptedSchema (schema_of app.now.tables.items) }
     requires fits { All (InitFits (schema_of app.now.tables.items)) init.now }
     requires distinct { AreDistinct init.now }

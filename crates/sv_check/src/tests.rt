@@ -194,8 +194,26 @@ fn the_first_row_that_breaks_is_found(rt: HostRuntime) -> Result<(), Fail> {
 #[test]
 fn the_first_broken_invariant_is_found(rt: HostRuntime) -> Result<(), Fail> {
     assert_eq!(rt; verdict(rt.alloc(), (5, 7), (0, 8))?, Verdict::Keeps);
-    assert_eq!(rt; verdict(rt.alloc(), (5, 7), (-1, 8))?, Verdict::Breaks { inv: 1, key: key(2) });
-    assert_eq!(rt; verdict(rt.alloc(), (-1, 7), (-1, 7))?, Verdict::Breaks { inv: 1, key: key(1) });
-    assert_eq!(rt; verdict(rt.alloc(), (5, 7), (3, 7))?, Verdict::Breaks { inv: 2, key: key(1) });
+    assert_eq!(rt;
+        verdict(rt.alloc(), (5, 7), (-1, 8))?,
+        Verdict::Breaks {
+            inv: 1,
+            key: key(2)
+        }
+    );
+    assert_eq!(rt;
+        verdict(rt.alloc(), (-1, 7), (-1, 7))?,
+        Verdict::Breaks {
+            inv: 1,
+            key: key(1)
+        }
+    );
+    assert_eq!(rt;
+        verdict(rt.alloc(), (5, 7), (3, 7))?,
+        Verdict::Breaks {
+            inv: 2,
+            key: key(1)
+        }
+    );
     Ok(())
 }

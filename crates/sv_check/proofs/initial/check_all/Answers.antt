@@ -16,10 +16,10 @@ returns-in-Some-clause-answer c =
     let row = c.index-init-place.result in
     let at : slice_get c.args.init.now c.loop-place.place ≡ Some row = get_at c.args.init.now c.loop-place.place row c.loop-place-test.true ∙ ap (λ x. Some x) (sym c.index-init-place.is) in
     is_first schema c.args.init.now c.loop-place.place row c.in-Some.number c.requires.accepted c.loop-place.invariant.passed at
-      (as_told schema c.args.init.now c.loop-place.place row (contains place_cmp c.in_ok-places.places) (contains held_cmp c.loop-place.earlier) c.first_failed.result
-      c.in_ok-places.ensures c.loop-place.invariant.held
-      (c.first_failed.ensures ∙ ap (first_failed schema (contains place_cmp c.in_ok-places.places) (contains held_cmp c.loop-place.earlier) row) c.invs_of-invs.ensures)
-      ∙ c.in-Some.is)
+    (as_told schema c.args.init.now c.loop-place.place row (contains place_cmp c.in_ok-places.places) (contains held_cmp c.loop-place.earlier) c.first_failed.result
+    c.in_ok-places.ensures c.loop-place.invariant.held
+    (c.first_failed.ensures ∙ ap (first_failed schema (contains place_cmp c.in_ok-places.places) (contains held_cmp c.loop-place.earlier) row) c.invs_of-invs.ensures)
+    ∙ c.in-Some.is)
 
 pub returns-in-Some-clause-wrong : goal.returns-in-Some-clause-wrong
 returns-in-Some-clause-wrong c =
@@ -33,13 +33,13 @@ loop-place-preserved c =
     let at : slice_get c.args.init.now c.loop-place.place ≡ Some row = get_at c.args.init.now c.loop-place.place row c.loop-place-test.true ∙ ap (λ x. Some x) (sym c.index-init-place.is) in
     record {
       held = held_more schema c.args.init.now c.loop-place.place row (contains held_cmp c.loop-place.earlier) (contains held_cmp c.note.new.earlier) c.loop-place-test.true at
-        c.loop-place.invariant.held
-        (λ h. c.in_ok-note-in-None.ensures h ∙ ap (λ invs. contains held_cmp c.loop-place.earlier h || is_held h (flat_map (λ inv. held_of row inv.rule) invs)) c.invs_of-invs.ensures);
+          c.loop-place.invariant.held
+          (λ h. c.in_ok-note-in-None.ensures h ∙ ap (λ invs. contains held_cmp c.loop-place.earlier h || is_held h (flat_map (λ inv. held_of row inv.rule) invs)) c.invs_of-invs.ensures);
       passed = one_passed schema c.args.init.now c.loop-place.place row c.loop-place.invariant.passed at
-        (as_told schema c.args.init.now c.loop-place.place row (contains place_cmp c.in_ok-places.places) (contains held_cmp c.loop-place.earlier) c.first_failed.result
-        c.in_ok-places.ensures c.loop-place.invariant.held
-        (c.first_failed.ensures ∙ ap (first_failed schema (contains place_cmp c.in_ok-places.places) (contains held_cmp c.loop-place.earlier) row) c.invs_of-invs.ensures)
-        ∙ c.in-None.is);
+          (as_told schema c.args.init.now c.loop-place.place row (contains place_cmp c.in_ok-places.places) (contains held_cmp c.loop-place.earlier) c.first_failed.result
+          c.in_ok-places.ensures c.loop-place.invariant.held
+          (c.first_failed.ensures ∙ ap (first_failed schema (contains place_cmp c.in_ok-places.places) (contains held_cmp c.loop-place.earlier) row) c.invs_of-invs.ensures)
+          ∙ c.in-None.is);
     }
 
 pub returns-clause-answer : goal.returns-clause-answer
