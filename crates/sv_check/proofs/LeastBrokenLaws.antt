@@ -30,12 +30,13 @@ use Rattle.sv_effect.specs.TablesOfCut.{is_place}
 use Rattle.sv_effect.proofs.FollowLaws.{quiet, so, next_to}
 use Rattle.sv_check.specs.declared.left.LeftRow.{LeftRow}
 use Rattle.sv_check.specs.Left.{over, left_row, left_rows, is_left}
-use Rattle.sv_check.specs.Least.{IsLeast, lesser, Says, BrokenAt, IsAfter, has_key, AreCandidates, IsOwn, has_absent, PlaceSays, LeastAmong, LeastBroken, walks}
+use Rattle.sv_check.specs.Least.{IsLeast, lesser, Says, BrokenAt, IsAfter, has_key, AreCandidates, IsOwn, has_absent, PlaceSays, LeastAmong, LeastBroken, is_touched, walks}
 use Rattle.sv_check.specs.Clashes.{Pair, same_got, values_of, values_at, has_other, Clashes}
 use Rattle.sv_check.proofs.BrokenLaws.{not_left, from_present}
 use Rattle.sv_check.proofs.LeastLaws.{least_both, least_same, least_one}
 use Rattle.sv_check.proofs.ListLaws.{Stands, any_at, Passes, any_passes, flat_stands, stands_in}
 use Rattle.sv_check.proofs.RuleLaws.{clash}
+use Rattle.sv_check.proofs.WalkLaws.{other_table}
 
 some_same : {A : Type 0} (x y : A) → Some x ≡ Some y → x ≡ y
 some_same x y e = cc
@@ -349,11 +350,32 @@ pub own_broken : (o m n : Option Tables) (a b c : Option (List ReadValue)) (sche
 own_broken o m n a b c schema left table inv walk keys found f is g declared own =
     next_to o m n a b c _ _ _ f g (λ t candidates among. own_least schema left t table (invariant_of inv) keys found (subst (λ w. AreCandidates w left table keys t) is candidates) declared own among)
 
-pub clash_broken : (o m n : Option Tables) (a b c : Option (List ReadValue)) (schema : List Declaration) (left : List (Place × LeftRow)) (table : ℕ) (body : InvBody) (column : Ident) (walk : Bool) (keys : List Key)
-    (pairs : List Pair) (found : Option Key) → Follows o m a b (AreCandidates walk left table keys) → walk ≡ walks (rule_of body) left → body ≡ bodies.Unique column
+pub clash_broken : (o m n : Option Tables) (a b c : Option (List ReadValue)) (schema : List Declaration) (left : List (Place × LeftRow)) (table : ℕ) (body : InvBody) (column : Ident) (keys : List Key)
+    (pairs : List Pair) (found : Option Key) → Follows o m a b (AreCandidates true left table keys) → body ≡ bodies.Unique column
     → Follows m n b c (λ t. pairs ≡ values_at (over left t) table column keys) → IsLeast (Clashes pairs) found → Follows o n a c (LeastBroken schema left table (rule_of body) found)
-clash_broken o m n a b c schema left table body column walk keys pairs found f is unique g least =
+clash_broken o m n a b c schema left table body column keys pairs found f unique g least =
     next_to o m n a b c _ _ _ f g (λ t candidates pairs_are. subst (λ x. LeastBroken schema left table (rule_of x) found t) (sym unique)
-    (clash_least schema left t table column keys pairs found (subst (λ w. AreCandidates w left table keys t) (is ∙ ap (λ x. walks (rule_of x) left) unique) candidates) pairs_are least))
+      (clash_least schema left t table column keys pairs found candidates pairs_are least))
 
-pub ruleset breaking = (own_broken, clash_broken)
+none_touched : (left : List (Place × LeftRow)) (table : ℕ) (key : Key) → is_touched left table ≡ false → is_left (place_at table key) left ≡ false
+none_touched [] table key e = refl
+none_touched (x ∷ left) table key e = by (x.0.table == table) refl e (none_touched left table key)
+  where
+    by : (b : Bool) → (x.0.table == table) ≡ b → (b || is_touched left table) ≡ false → (is_touched left table ≡ false → is_left (place_at table key) left ≡ false) → is_left (place_at table key) (x ∷ left) ≡ false
+    by true h e ih = absurd cc
+    by false h e ih = (λ i. other_table table key x.0 h i || is_left (place_at table key) left) ∙ ih e
+
+-- no row of the table was changed, so its values differ as they did before
+pub untouched : (o n : Option Tables) (a b : Option (List ReadValue)) (schema : List Declaration) (left : List (Place × LeftRow)) (table : ℕ) (inv : Inv) (column : Ident) (touched : Bool) → n ≡ o → b ≡ a
+    → IsInvariant schema table (invariant_of inv) → inv.body ≡ bodies.Unique column → touched ≡ is_touched left table → touched ≡ false → Follows o n a b (LeastBroken schema left table (rule_of inv.body) None)
+untouched o n a b schema left table inv column touched same stands declared unique is none_left =
+    quiet o n a b _ same stands (λ t after. subst (λ x. IsLeast (BrokenAt schema (over left t) table (rule_of x)) None) (sym unique) (λ key broken. broken.breaks (λ present other with_it kept there equal.
+      held t after key broken.row (as_before t key broken.row broken.kept) present other with_it (as_before t other with_it kept) there equal)))
+  where
+    as_before : (t : Tables) (key : Key) (row : Row) → IsKept (over left t) table key row → IsKept t table key row
+    as_before t key row kept = sym (not_left left t (place_at table key) (none_touched left table key (sym is ∙ none_left))) ∙ kept
+
+    held : (t : Tables) → IsAfter schema left t → (key : Key) (row : Row) → IsKept t table key row → Holds schema t table (Different column) key row
+    held t after key row kept = subst (λ x. Holds schema t table (rule_of x) key row) unique (after.valid.invariants table (invariant_of inv) key row declared kept)
+
+pub ruleset breaking = (own_broken, clash_broken, untouched)

@@ -81,7 +81,7 @@ same_table table key p e = ap (λ o. is_eq (ordering_then o (key_cmp key p.key))
     tie : (n m : ℕ) → (m == n) ≡ true → nat_cmp n m ≡ Equal
     tie n m e = grind (arith, nat_tests)
 
-other_table : (table : ℕ) (key : Key) (p : Place) → (p.table == table) ≡ false → is_place (place_at table key) p ≡ false
+pub other_table : (table : ℕ) (key : Key) (p : Place) → (p.table == table) ≡ false → is_place (place_at table key) p ≡ false
 other_table table key p e = split (nat_cmp table p.table) refl
   where
     untied : (n m : ℕ) → (m == n) ≡ false → nat_cmp n m ≡ Equal → ⊥

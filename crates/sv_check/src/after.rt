@@ -80,7 +80,8 @@ fn first_broken<R: Rows>(
 /// Whether every invariant holds after the changes, each write winning, or which is broken, the first, and the least key
 /// at which it is. So it is for all valid tables that agree with what was read, and in which each row that is updated or
 /// removed is kept or was inserted by an earlier change. It asks for rows that the changes touch or refer to; for
-/// uniqueness, and where a row was removed to which others may refer, it walks the table that holds the column. The
+/// uniqueness in a table that they touch, and where a row was removed to which others may refer, it walks the table that
+/// holds the column. The
 /// application is accepted, the rows are of it, the changes fit it, and there are at most 64.
 #[tactic(auto, using(crate::proofs::VerdictLaws::judging))]
 pub fn check_after<R: Rows>(

@@ -48,7 +48,7 @@ fn is_met(row: &LeftRow, check: &Check) -> bool
     is_within(side_of(row, check.hi), side_of(row, check.lo), check.most)
 }
 
-/// The key that the value is.
+/// The key that the value is. A column that refers holds no number beyond 64 bits, so none is refused for that.
 fn key_by(got: &Got) -> Result<Key, NoMemory>
     ensures { IfOk result (λ key. key ≡ key_by got.now) }
 {
