@@ -1,8 +1,6 @@
 -- The first initial row that breaks an invariant, and that the tables are valid where there is none.
-use Rattle.std.proofs.Common.{◌≡◌, ◌⊎◌, inl, inr, ℕ, zero, suc, ◌+◌, ◌<◌, ◌≤◌, ◌||◌, Bool, true, false, List, [], ◌∷◌, ◌++◌, length, take, get_or, Option, Some, None, slice_get, refl, sym, ap, subst, ◌∙◌, arith}
-use Rattle.std.specs.Prelude.{map}
-use Rattle.std.specs.List.{flat_map, find, Contains}
-use Rattle.std.specs.Option.{option_map}
+use Rattle.std.proofs.Common.{◌≡◌, ◌⊎◌, inl, inr, ℕ, zero, suc, ◌+◌, ◌<◌, ◌≤◌, ◌||◌, Bool, true, false, List, [], ◌∷◌, ◌++◌, length, Option, Some, None, slice_get, refl, sym, ap, subst, ◌∙◌, arith}
+use Rattle.std.specs.List.{flat_map, find}
 use Rattle.std.specs.FinMap.{get}
 use Rattle.std.proofs.lemmas.Bool.{cases_eq, cases_lt}
 use Rattle.std.proofs.lemmas.Option.{slice_get_within, get_or_from_slice_get}
@@ -10,14 +8,12 @@ use Rattle.sv_value.specs.declared.values.Key.{Key}
 use Rattle.sv_app.specs.declared.apps.Ident.{Ident}
 use Rattle.sv_app.specs.declared.places.Place.{Place}
 use Rattle.sv_app.specs.declared.requests.InitRow.{InitRow}
-use Rattle.sv_app.specs.declared.schemas.Table.{Table}
 use Rattle.sv_app.specs.Accepted.{AcceptedSchema}
 use Rattle.sv_app.specs.Conditions.{AreNumberedFrom}
-use Rattle.sv_app.specs.Schema.{Rule, Bound, OneOf, Different, Refers, Invariant, Declaration, declaration_of, schema_of, invariant_of}
+use Rattle.sv_app.specs.Schema.{Rule, Bound, OneOf, Different, Refers, Invariant, Declaration}
 use Rattle.sv_app.specs.Tables.{Row}
 use Rattle.sv_app.specs.Valid.{value_of, place_at, IsKept, Holds, IsInvariant, Valid}
 use Rattle.sv_effect.specs.Initial.{AreDistinct}
-use Rattle.sv_effect.specs.TablesOfCut.{init_place}
 use Rattle.sv_check.specs.declared.initial.Held.{Held}
 use Rattle.sv_check.specs.Initial.{initial_row, initial_tables, HasEarlier, Fails, BreaksAt, IsFirst}
 use Rattle.sv_check.specs.Tests.{held_cmp, rules_of, held_by, is_held, is_there, fails, first_failed}

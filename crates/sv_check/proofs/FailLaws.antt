@@ -1,7 +1,6 @@
 -- The tests of initial rows answer as it is meant that a row breaks a rule.
-use Rattle.std.proofs.Common.{◌≡◌, ◌⊎◌, inl, inr, ℕ, zero, suc, ◌+◌, ◌<◌, ◌≤◌, ◌||◌, ◌&&◌, not, cond, Bool, true, false, List, [], ◌∷◌, ◌++◌, take, get_or, length, Option, Some, None, slice_get, nat_lt, refl, sym, ap, subst, ◌∙◌, arith}
-use Rattle.std.specs.Prelude.{map, All, pos, unwrap_or}
-use Rattle.std.specs.List.{Contains, list_any, flat_map}
+use Rattle.std.proofs.Common.{◌≡◌, ◌⊎◌, inl, inr, ℕ, zero, suc, ◌<◌, ◌||◌, ◌&&◌, not, Bool, true, false, List, [], ◌∷◌, take, length, Option, Some, None, slice_get, nat_lt, refl, sym, ap, subst, ◌∙◌, arith}
+use Rattle.std.specs.List.{Contains, flat_map}
 use Rattle.std.specs.Option.{is_some}
 use Rattle.std.specs.Ordering.{eq_by_cmp}
 use Rattle.std.specs.FinMap.{get}
@@ -9,25 +8,22 @@ use Rattle.std.proofs.lemmas.Bool.Decides.{nat_tests}
 use Rattle.std.proofs.lemmas.Cmp.{eq_by_cmp_equiv}
 use Rattle.std.proofs.lemmas.List.Folds.{list_any-append}
 use Rattle.std.proofs.lemmas.Map.Views.{tells_apart}
-use Rattle.std.proofs.lemmas.Option.{slice_get_within}
 use Rattle.sv_value.specs.declared.values.Val.{Val}
 use Rattle.sv_value.specs.declared.values.Val.TheVariants.{Int, Text as IsText}
 use Rattle.sv_app.specs.declared.apps.Ident.{Ident}
 use Rattle.sv_app.specs.declared.places.Place.{Place}
 use Rattle.sv_app.specs.declared.requests.InitRow.{InitRow}
 use Rattle.sv_app.specs.Schema.{Rule, Bound, OneOf, Different, Refers, Invariant, Declaration}
-use Rattle.sv_app.specs.Tables.{Row, place_cmp}
+use Rattle.sv_app.specs.Tables.{Row}
 use Rattle.sv_app.specs.Valid.{value_of, as_val, key_by, place_at, IsPresent, Binds, Holds, IsInvariant}
 use Rattle.sv_effect.specs.BareTables.{got_of}
-use Rattle.sv_effect.specs.Initial.{AreDistinct}
-use Rattle.sv_effect.specs.TablesOfCut.{init_place}
 use Rattle.sv_check.specs.declared.initial.Held.{Held}
 use Rattle.sv_check.specs.Initial.{initial_row, initial_tables, HasEarlier, Fails}
 use Rattle.sv_check.specs.Least.{IsOwn}
 use Rattle.sv_check.specs.Rules.{is_met, is_listed}
 use Rattle.sv_check.specs.Tests.{val_in, held_cmp, held_of, rules_of, held_by, is_held, is_there, referred, fails}
 use Rattle.sv_check.proofs.InitialLaws.{initial_at, get-initial, IsInitial, initial_from, there-initial}
-use Rattle.sv_check.proofs.ListLaws.{Stands, contained, any_at, Passes, any_passes, either_true, same_some}
+use Rattle.sv_check.proofs.ListLaws.{Stands, contained, either_true}
 use Rattle.sv_check.proofs.RuleLaws.{clash, meets, met, listed, in_list}
 use Rattle.sv_check.proofs.ValueLaws.{value-in, held_total, exact_held}
 

@@ -1,6 +1,5 @@
 -- A rule is broken only at candidates, so the least of these at which it is broken is the least of all.
-use Rattle.std.proofs.Common.{◌≡◌, ◌≢◌, ◌⊎◌, inl, inr, ⊎_elim, ℕ, zero, suc, ◌+◌, ◌<◌, ◌≤◌, ◌||◌, ◌&&◌, ◌==◌, not, Bool, true, false, cond, List, [], ◌∷◌, ◌++◌, take, get_or, length, Option, Some, None, slice_get, refl, sym, ap, subst, ◌∙◌, arith, ℤ, int_eq}
-use Rattle.std.specs.List.{list_any, flat_map}
+use Rattle.std.proofs.Common.{◌≡◌, ◌⊎◌, inl, inr, ⊎_elim, ℕ, zero, suc, ◌+◌, ◌<◌, ◌≤◌, ◌||◌, ◌&&◌, ◌==◌, not, Bool, true, false, cond, List, [], ◌∷◌, take, get_or, length, Option, Some, None, slice_get, refl, sym, ap, subst, ◌∙◌, arith, ℤ, int_eq}
 use Rattle.std.specs.Ordering.{is_lt, is_eq, eq_by_cmp}
 use Rattle.std.specs.FinMap.{get, get-insert}
 use Rattle.std.proofs.lemmas.Int.{ints}
@@ -23,15 +22,14 @@ use Rattle.sv_app.specs.Schema.{Rule, Bound, OneOf, Different, Refers, Invariant
 use Rattle.sv_app.specs.Tables.{Row, Tables}
 use Rattle.sv_app.specs.Valid.{value_of, key_by, place_at, IsKept, IsPresent, Binds, Holds, IsInvariant}
 use Rattle.sv_app.proofs.PlaceLaws.{place_total, exact_places}
-use Rattle.sv_effect.specs.Agrees.{is_present}
 use Rattle.sv_effect.specs.Follows.{Follows}
 use Rattle.sv_effect.specs.Reads.{ReadValue}
 use Rattle.sv_effect.specs.TablesOfCut.{is_place}
 use Rattle.sv_effect.proofs.FollowLaws.{quiet, so, next_to}
 use Rattle.sv_check.specs.declared.left.LeftRow.{LeftRow}
-use Rattle.sv_check.specs.Left.{over, left_row, left_rows, is_left}
+use Rattle.sv_check.specs.Left.{over, left_row, is_left}
 use Rattle.sv_check.specs.Least.{IsLeast, lesser, Says, BrokenAt, IsAfter, has_key, AreCandidates, IsOwn, has_absent, PlaceSays, LeastAmong, LeastBroken, is_touched, walks}
-use Rattle.sv_check.specs.Clashes.{Pair, same_got, values_of, values_at, has_other, Clashes}
+use Rattle.sv_check.specs.Clashes.{Pair, same_got, values_of, values_at, Clashes}
 use Rattle.sv_check.proofs.BrokenLaws.{not_left, from_present}
 use Rattle.sv_check.proofs.LeastLaws.{least_both, least_same, least_one}
 use Rattle.sv_check.proofs.ListLaws.{Stands, any_at, Passes, any_passes, flat_stands, stands_in}
@@ -355,7 +353,7 @@ pub clash_broken : (o m n : Option Tables) (a b c : Option (List ReadValue)) (sc
     → Follows m n b c (λ t. pairs ≡ values_at (over left t) table column keys) → IsLeast (Clashes pairs) found → Follows o n a c (LeastBroken schema left table (rule_of body) found)
 clash_broken o m n a b c schema left table body column keys pairs found f unique g least =
     next_to o m n a b c _ _ _ f g (λ t candidates pairs_are. subst (λ x. LeastBroken schema left table (rule_of x) found t) (sym unique)
-      (clash_least schema left t table column keys pairs found candidates pairs_are least))
+    (clash_least schema left t table column keys pairs found candidates pairs_are least))
 
 none_touched : (left : List (Place × LeftRow)) (table : ℕ) (key : Key) → is_touched left table ≡ false → is_left (place_at table key) left ≡ false
 none_touched [] table key e = refl
@@ -370,7 +368,7 @@ pub untouched : (o n : Option Tables) (a b : Option (List ReadValue)) (schema : 
     → IsInvariant schema table (invariant_of inv) → inv.body ≡ bodies.Unique column → touched ≡ is_touched left table → touched ≡ false → Follows o n a b (LeastBroken schema left table (rule_of inv.body) None)
 untouched o n a b schema left table inv column touched same stands declared unique is none_left =
     quiet o n a b _ same stands (λ t after. subst (λ x. IsLeast (BrokenAt schema (over left t) table (rule_of x)) None) (sym unique) (λ key broken. broken.breaks (λ present other with_it kept there equal.
-      held t after key broken.row (as_before t key broken.row broken.kept) present other with_it (as_before t other with_it kept) there equal)))
+    held t after key broken.row (as_before t key broken.row broken.kept) present other with_it (as_before t other with_it kept) there equal)))
   where
     as_before : (t : Tables) (key : Key) (row : Row) → IsKept (over left t) table key row → IsKept t table key row
     as_before t key row kept = sym (not_left left t (place_at table key) (none_touched left table key (sym is ∙ none_left))) ∙ kept

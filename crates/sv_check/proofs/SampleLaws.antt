@@ -1,5 +1,5 @@
 -- The table of the tests is accepted, its initial rows and inserts fit, and tables without rows have none.
-use Rattle.std.proofs.Common.{◌≡◌, ◌≢◌, ℕ, ℤ, zero, suc, ◌<◌, ◌≤◌, Bool, true, false, List, [], ◌∷◌, length, pos, Option, Some, None, slice_get, refl, sym, ap, subst, ◌∙◌, arith}
+use Rattle.std.proofs.Common.{◌≡◌, ◌≢◌, ℕ, ℤ, zero, suc, ◌<◌, true, false, List, [], ◌∷◌, pos, Some, None, slice_get, refl, sym, ap, subst, ◌∙◌, arith}
 use Rattle.std.specs.List.{All}
 use Rattle.std.specs.FinMap.{get-empty, empty}
 use Rattle.sv_value.specs.declared.values.Key.{Key}
@@ -23,7 +23,7 @@ use Rattle.sv_effect.specs.Fits.{KeyFits, is_key_column, AreWrites, Ascending, c
 use Rattle.sv_effect.specs.Initial.{ValuesFit, InitFits, AreDistinct}
 use Rattle.sv_effect.specs.RowChange.{key_values}
 use Rattle.sv_effect.specs.TablesOfCut.{init_place}
-use Rattle.sv_check.specs.Sample.{here, name_of, column_of, sample, key_of, IsInitOf, IsInsertOf}
+use Rattle.sv_check.specs.Sample.{here, name_of, column_of, sample, IsInitOf, IsInsertOf}
 
 all_none : {A : Type 0} (P : A → Type 0) → All P []
 all_none P i d lt = absurd (omega (arith, lt))

@@ -1,5 +1,5 @@
 -- The tables that a store starts with are those of the initial rows.
-use Rattle.std.proofs.Common.{◌≡◌, ℕ, zero, suc, ◌<◌, ◌||◌, if◌then◌else◌, cond, Bool, true, false, List, [], ◌∷◌, ◌++◌, length, get_or, Option, Some, None, slice_get, refl, sym, ap, subst, ◌∙◌, arith}
+use Rattle.std.proofs.Common.{◌≡◌, ℕ, suc, ◌||◌, if◌then◌else◌, cond, Bool, true, false, List, [], ◌∷◌, ◌++◌, Option, Some, None, slice_get, refl, sym, ap, subst, ◌∙◌, arith}
 use Rattle.std.specs.Prelude.{map, All}
 use Rattle.std.specs.Option.{option_map}
 use Rattle.std.specs.FinMap.{get, same_map}
@@ -15,7 +15,6 @@ use Rattle.sv_app.specs.declared.schemas.Ty.{Ty}
 use Rattle.sv_app.specs.declared.schemas.Ty.TheVariants as types
 use Rattle.sv_app.specs.Accepted.{AcceptedSchema}
 use Rattle.sv_app.specs.Schema.{Declaration}
-use Rattle.sv_app.specs.Tables.{Row, place_cmp}
 use Rattle.sv_app.proofs.AcceptedLaws.{counter_is_int}
 use Rattle.sv_app.proofs.PlaceLaws.{place_total, exact_places}
 use Rattle.sv_effect.specs.StampedTables.{StampedRow}

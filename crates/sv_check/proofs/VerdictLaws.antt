@@ -1,10 +1,10 @@
 -- From what is said of each invariant to the verdict.
-use Rattle.std.proofs.Common.{◌≡◌, ◌≢◌, ◌⊎◌, inl, inr, ⊎_elim, ℕ, zero, suc, ◌+◌, ◌<◌, ◌≤◌, Bool, true, false, cond, List, [], ◌∷◌, ◌++◌, map, get_or, length, Option, Some, None, slice_get, refl, sym, ap, subst, ◌∙◌, arith}
+use Rattle.std.proofs.Common.{◌≡◌, ◌≢◌, ◌⊎◌, inl, inr, ℕ, zero, suc, ◌+◌, ◌<◌, ◌≤◌, Bool, true, false, cond, List, [], ◌∷◌, map, get_or, length, Option, Some, None, slice_get, refl, sym, ap, subst, ◌∙◌, arith}
 use Rattle.std.specs.Prelude.{unwrap_or, IsSome}
-use Rattle.std.specs.List.{flat_map, Contains}
+use Rattle.std.specs.List.{flat_map}
 use Rattle.std.specs.Ordering.{is_lt, is_eq}
 use Rattle.std.specs.FinMap.{get, get-insert}
-use Rattle.std.proofs.lemmas.Bool.{cases_eq, cases_lt}
+use Rattle.std.proofs.lemmas.Bool.{cases_eq}
 use Rattle.std.proofs.lemmas.Map.Views.{tells_apart}
 use Rattle.std.proofs.lemmas.Option.{slice_get_within}
 use Rattle.sv_value.specs.declared.values.Key.{Key}
@@ -40,12 +40,12 @@ use Rattle.sv_check.specs.Least.{IsLeast, BrokenAt, IsAfter, LeastBroken}
 use Rattle.sv_check.specs.Left.{over}
 use Rattle.sv_check.specs.Rules.{is_met, is_listed}
 use Rattle.sv_check.specs.Tests.{rules_of}
-use Rattle.sv_check.specs.Verdicts.{IsVerdict, Judges, IsFirstIn, NoneIn, TableSays, IsFirstOfAll, AllSay}
+use Rattle.sv_check.specs.Verdicts.{IsVerdict, Judges, NoneIn, TableSays, IsFirstOfAll, AllSay}
 use Rattle.sv_check.proofs.AnswerLaws.{cases_below, numbers_from, numbered_front, numbered_back}
 use Rattle.sv_check.proofs.FailLaws.{invariants_in}
 use Rattle.sv_check.proofs.LeastBrokenLaws.{key_itself}
 use Rattle.sv_check.proofs.BrokenLaws.{present_from, from_present}
-use Rattle.sv_check.proofs.ListLaws.{Stands, contained, contains_at, same_some}
+use Rattle.sv_check.proofs.ListLaws.{Stands, contains_at, same_some}
 use Rattle.sv_check.proofs.RuleLaws.{clash, meets, met, listed, in_list}
 
 -- ---- a table's invariants, one after the other

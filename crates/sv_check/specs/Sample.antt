@@ -1,5 +1,5 @@
 -- The table of the tests: its rows have an integer key, a counter that doesn't fall below zero, and a unique integer of which the last writer wins.
-use Rattle.std.specs.Prelude.{◌≡◌, ℕ, ℤ, pos, List, [], ◌∷◌, Some, None}
+use Rattle.std.specs.Prelude.{◌≡◌, ℕ, ℤ, pos, [], ◌∷◌, Some, None}
 use Rattle.sv_value.specs.declared.spots.Spot.{Spot}
 use Rattle.sv_value.specs.declared.values.Key.{Key}
 use Rattle.sv_value.specs.declared.values.Val.TheVariants.{Int}

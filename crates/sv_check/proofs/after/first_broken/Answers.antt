@@ -1,4 +1,4 @@
-use Rattle.std.proofs.Common.{◌≡◌, ◌≤◌, length, map, ◌∙◌, arith}
+use Rattle.std.proofs.Common.{◌≤◌, length, ◌∙◌, arith}
 use Rattle.sv_app.specs.Schema.{schema_of}
 use Rattle.sv_check.proofs.TableLaws.{schema_long}
 use Rattle.sv_check.proofs.VerdictLaws.{one_table, first_table, no_table_breaks}

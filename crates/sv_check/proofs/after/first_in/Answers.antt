@@ -1,4 +1,4 @@
-use Rattle.std.proofs.Common.{◌≡◌, ◌≤◌, length, map, ◌∙◌, arith}
+use Rattle.std.proofs.Common.{◌≤◌, length, ◌∙◌, arith}
 use Rattle.sv_app.specs.Schema.{schema_of}
 use Rattle.sv_check.proofs.VerdictLaws.{one_passed, first_found, none_in}
 use Rattle.sv_check.proofs.after.first_in.Goals as goal

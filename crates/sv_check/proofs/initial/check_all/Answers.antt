@@ -1,12 +1,11 @@
-use Rattle.std.proofs.Common.{◌≡◌, ◌||◌, ◌<◌, ℕ, Some, None, map, length, slice_get, get_or, subst, ap, sym, ◌∙◌, arith}
+use Rattle.std.proofs.Common.{◌≡◌, ◌||◌, Some, length, slice_get, subst, ap, sym, ◌∙◌, arith}
 use Rattle.std.specs.List.{flat_map}
 use Rattle.std.specs.BTreeSet.{contains}
-use Rattle.sv_app.specs.Schema.{schema_of, invariant_of}
+use Rattle.sv_app.specs.Schema.{schema_of}
 use Rattle.sv_app.specs.Tables.{place_cmp}
-use Rattle.sv_check.specs.declared.initial.Held.{Held}
 use Rattle.sv_check.specs.Initial.{IsFirst}
 use Rattle.sv_check.specs.Tests.{held_cmp, held_of, is_held, first_failed}
-use Rattle.sv_check.proofs.AnswerLaws.{Passed, first_of, as_told, one_passed, held_more, is_first, all_valid, not_valid}
+use Rattle.sv_check.proofs.AnswerLaws.{Passed, as_told, one_passed, held_more, is_first, all_valid, not_valid}
 use Rattle.sv_check.proofs.ListLaws.{get_at}
 use Rattle.sv_check.proofs.initial.check_all.Goals as goal
 

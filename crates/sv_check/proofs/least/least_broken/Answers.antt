@@ -1,4 +1,4 @@
-use Rattle.std.proofs.Common.{◌≡◌, subst, sym, ap}
+use Rattle.std.proofs.Common.{◌≡◌, subst}
 use Rattle.sv_app.specs.Schema.{schema_of}
 use Rattle.sv_effect.specs.Follows.{Follows}
 use Rattle.sv_check.specs.Left.{over}
