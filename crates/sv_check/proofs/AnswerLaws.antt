@@ -1,8 +1,6 @@
 -- The first initial row that breaks an invariant, and that the tables are valid where there is none.
-use Rattle.std.proofs.Common.{◌≡◌, ◌⊎◌, inl, inr, ℕ, zero, suc, ◌+◌, ◌<◌, ◌≤◌, ◌||◌, Bool, true, false, List, [], ◌∷◌, ◌++◌, length, take, get_or, Option, Some, None, slice_get, refl, sym, ap, subst, ◌∙◌, arith}
-use Rattle.std.specs.Prelude.{map}
-use Rattle.std.specs.List.{flat_map, find, Contains}
-use Rattle.std.specs.Option.{option_map}
+use Rattle.std.proofs.Common.{◌≡◌, ◌⊎◌, inl, inr, ℕ, zero, suc, ◌+◌, ◌<◌, ◌≤◌, ◌||◌, Bool, true, false, List, [], ◌∷◌, ◌++◌, length, Option, Some, None, slice_get, refl, sym, ap, subst, ◌∙◌, arith}
+use Rattle.std.specs.List.{flat_map, find}
 use Rattle.std.specs.FinMap.{get}
 use Rattle.std.proofs.lemmas.Bool.{cases_eq, cases_lt}
 use Rattle.std.proofs.lemmas.Option.{slice_get_within, get_or_from_slice_get}
@@ -10,14 +8,12 @@ use Rattle.sv_value.specs.declared.values.Key.{Key}
 use Rattle.sv_app.specs.declared.apps.Ident.{Ident}
 use Rattle.sv_app.specs.declared.places.Place.{Place}
 use Rattle.sv_app.specs.declared.requests.InitRow.{InitRow}
-use Rattle.sv_app.specs.declared.schemas.Table.{Table}
 use Rattle.sv_app.specs.Accepted.{AcceptedSchema}
 use Rattle.sv_app.specs.Conditions.{AreNumberedFrom}
-use Rattle.sv_app.specs.Schema.{Rule, Bound, OneOf, Different, Refers, Invariant, Declaration, declaration_of, schema_of, invariant_of}
+use Rattle.sv_app.specs.Schema.{Rule, Bound, OneOf, Different, Refers, Invariant, Declaration}
 use Rattle.sv_app.specs.Tables.{Row}
 use Rattle.sv_app.specs.Valid.{value_of, place_at, IsKept, Holds, IsInvariant, Valid}
 use Rattle.sv_effect.specs.Initial.{AreDistinct}
-use Rattle.sv_effect.specs.TablesOfCut.{init_place}
 use Rattle.sv_check.specs.declared.initial.Held.{Held}
 use Rattle.sv_check.specs.Initial.{initial_row, initial_tables, HasEarlier, Fails, BreaksAt, IsFirst}
 use Rattle.sv_check.specs.Tests.{held_cmp, rules_of, held_by, is_held, is_there, fails, first_failed}
@@ -59,7 +55,7 @@ test_false schema init i row inv none_found is =
     find_none (λ inv. fails schema (λ p. is_there p init) (held_before schema init i) row inv.rule) (rules_of (slice_get schema row.table)) among.number inv
     (map_none (λ inv. inv.number) (find (λ inv. fails schema (λ p. is_there p init) (held_before schema init i) row inv.rule) (rules_of (slice_get schema row.table))) none_found) among.at
 
-cases_below : (j k : ℕ) → (j < k) ⊎ ((j ≡ k) ⊎ (k < j))
+pub cases_below : (j k : ℕ) → (j < k) ⊎ ((j ≡ k) ⊎ (k < j))
 cases_below j k = split (cases_eq j k) (cases_lt k j)
   where
     split : (j ≡ k) ⊎ (j ≡ k → ⊥) → (k < j) ⊎ (j ≤ k) → (j < k) ⊎ ((j ≡ k) ⊎ (k < j))
@@ -104,8 +100,8 @@ rule_holds schema init table inv rule key row from is same passed = split rule s
         let second : IsInitial init (place_at from.from.table other) with_it = kept_from init (place_at from.from.table other) with_it kept in
         sym (ap (λ p. p.key) second.place)
         ∙ two_differ schema init from.number second.number from.from second.from inv column is e from.at second.at none_here
-          (passed second.number second.from (slice_get_within init second.number second.from second.at) second.at) (ap (λ p. p.table) second.place)
-          (ap (λ r. value_of r column) (sym second.is) ∙ equal)
+        (passed second.number second.from (slice_get_within init second.number second.from second.at) second.at) (ap (λ p. p.table) second.place)
+        (ap (λ r. value_of r column) (sym second.is) ∙ equal)
 
 pub all_valid : (schema : List Declaration) (init : List InitRow) → Passed schema init (length init) → Valid schema (initial_tables init)
 all_valid schema init passed = record {
@@ -119,7 +115,7 @@ all_valid schema init passed = record {
   grown = λ table declaration key row declared grows kept. ap (λ r. r.present) (kept_from init (place_at table key) row kept).is;
 }
 
-numbers_from : (first : ℕ) (invs : List Invariant) (k : ℕ) (inv : Invariant) → AreNumberedFrom first invs → slice_get invs k ≡ Some inv → inv.number ≡ first + k
+pub numbers_from : (first : ℕ) (invs : List Invariant) (k : ℕ) (inv : Invariant) → AreNumberedFrom first invs → slice_get invs k ≡ Some inv → inv.number ≡ first + k
 numbers_from first [] k inv numbered at = absurd cc
 numbers_from first (x ∷ invs) zero inv numbered at = let same : x ≡ inv = cc in ap (λ z. z.number) (sym same) ∙ numbered.0 ∙ more first
   where
@@ -130,11 +126,11 @@ numbers_from first (x ∷ invs) (suc k) inv numbered at = numbers_from (suc firs
     more : (n m : ℕ) → suc n + m ≡ n + suc m
     more n m = omega arith
 
-numbered_front : (first : ℕ) (xs ys : List Invariant) → AreNumberedFrom first (xs ++ ys) → AreNumberedFrom first xs
+pub numbered_front : (first : ℕ) (xs ys : List Invariant) → AreNumberedFrom first (xs ++ ys) → AreNumberedFrom first xs
 numbered_front first [] ys numbered = tt
 numbered_front first (x ∷ xs) ys numbered = (numbered.0, numbered_front (suc first) xs ys numbered.1)
 
-numbered_back : (first : ℕ) (xs ys : List Invariant) → AreNumberedFrom first (xs ++ ys) → AreNumberedFrom (first + length xs) ys
+pub numbered_back : (first : ℕ) (xs ys : List Invariant) → AreNumberedFrom first (xs ++ ys) → AreNumberedFrom (first + length xs) ys
 numbered_back first [] ys numbered = subst (λ n. AreNumberedFrom n ys) (omega arith) numbered
 numbered_back first (x ∷ xs) ys numbered = subst (λ n. AreNumberedFrom n ys) (omega arith) (numbered_back (suc first) xs ys numbered.1)
 
@@ -204,7 +200,7 @@ is_first schema init i row number accepted passed at is = record {
     order other n broken (inr (inl same)) = inr (same, lowest n (subst (λ k. BreaksAt schema init k n) (sym same) broken))
     order other n broken (inr (inr less)) =
         absurd (unbroken schema init other broken.row broken.inv broken.inv.rule broken.declared refl
-          (test_false schema init other broken.row broken.inv (passed other broken.row less broken.stands) broken.declared) broken.fails)
+        (test_false schema init other broken.row broken.inv (passed other broken.row less broken.stands) broken.declared) broken.fails)
 
 -- tables in which a row breaks an invariant aren't valid
 pub not_valid : (schema : List Declaration) (init : List InitRow) (i number : ℕ) → AreDistinct init → BreaksAt schema init i number → Valid schema (initial_tables init) → ⊥
@@ -216,7 +212,7 @@ not_valid schema init i number distinct broken valid = split broken.inv.rule bro
     split (Refers column parent target) failed holds = failed holds
     split (Different column) failed holds =
         let kept : IsKept (initial_tables init) broken.row.table failed.other.key (initial_row failed.other) =
-          ap (λ n. get (initial_tables init) (place_at n failed.other.key)) (sym failed.beside) ∙ kept_at init failed.earlier failed.other distinct failed.stands in
+        ap (λ n. get (initial_tables init) (place_at n failed.other.key)) (sym failed.beside) ∙ kept_at init failed.earlier failed.other distinct failed.stands in
         let same : failed.other.key ≡ broken.row.key = holds refl failed.other.key (initial_row failed.other) kept refl failed.equal in
         one_place init failed.earlier i failed.other broken.row distinct failed.stands broken.stands failed.before (λ k. place_at (failed.beside k) (same k))
 

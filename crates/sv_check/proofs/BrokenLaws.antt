@@ -1,7 +1,6 @@
 -- What tests say of rules after changes.
-use Rattle.std.proofs.Common.{◌≡◌, ◌≢◌, ◌⊎◌, inl, inr, ⊎_elim, ℕ, zero, suc, ◌<◌, ◌≤◌, ◌||◌, ◌&&◌, ◌==◌, not, Bool, true, false, cond, List, [], ◌∷◌, get_or, length, Option, Some, None, slice_get, refl, sym, ap, subst, ◌∙◌, arith}
+use Rattle.std.proofs.Common.{◌≡◌, ◌⊎◌, inl, inr, ⊎_elim, ℕ, ◌<◌, ◌≤◌, ◌||◌, not, Bool, true, false, cond, List, [], ◌∷◌, get_or, length, Option, Some, None, slice_get, refl, sym, ap, subst, ◌∙◌}
 use Rattle.std.specs.FinMap.{get, get-insert}
-use Rattle.std.proofs.lemmas.Map.Views.{tells_apart}
 use Rattle.sv_value.specs.declared.values.Key.{Key}
 use Rattle.sv_app.specs.declared.apps.Ident.{Ident}
 use Rattle.sv_app.specs.declared.gots.Got.{Got}
@@ -12,9 +11,9 @@ use Rattle.sv_app.specs.declared.schemas.InvBody.{InvBody}
 use Rattle.sv_app.specs.declared.schemas.InvBody.TheVariants as bodies
 use Rattle.sv_app.specs.declared.schemas.Table.{Table}
 use Rattle.sv_app.specs.Kinds.{is_grow_only}
-use Rattle.sv_app.specs.Schema.{Rule, Bound, OneOf, Different, Refers, Invariant, Declaration, declaration_of, schema_of, rule_of, invariant_of}
+use Rattle.sv_app.specs.Schema.{Rule, Declaration, schema_of, rule_of, invariant_of}
 use Rattle.sv_app.specs.Tables.{Row, Tables}
-use Rattle.sv_app.specs.Valid.{value_of, key_by, place_at, Meets, IsListed, IsKept, IsPresent, Binds, Holds, IsInvariant}
+use Rattle.sv_app.specs.Valid.{value_of, key_by, place_at, Meets, IsListed, IsPresent, Binds, Holds, IsInvariant}
 use Rattle.sv_app.proofs.PlaceLaws.{place_total}
 use Rattle.sv_effect.specs.Agrees.{seen_in, seen_at, is_present}
 use Rattle.sv_effect.specs.Follows.{Follows}
@@ -22,7 +21,7 @@ use Rattle.sv_effect.specs.Reads.{SeenValue, ReadValue}
 use Rattle.sv_effect.specs.TablesOfCut.{is_place}
 use Rattle.sv_effect.proofs.FollowLaws.{quiet, so, next_to}
 use Rattle.sv_check.specs.declared.left.LeftRow.{LeftRow}
-use Rattle.sv_check.specs.Left.{over, left_row, left_rows, hides, lent, is_left}
+use Rattle.sv_check.specs.Left.{over, left_row, left_rows, hides, is_left}
 use Rattle.sv_check.specs.Least.{Says, BrokenAt, IsAfter, RowSays, PlaceSays}
 use Rattle.sv_check.specs.Rules.{is_met, is_listed}
 use Rattle.sv_check.proofs.RuleLaws.{clash, meets, met, listed, in_list}
@@ -100,7 +99,7 @@ pub says_listed : (o n : Option Tables) (a b : Option (List ReadValue)) (schema 
     → n ≡ o → b ≡ a → body ≡ bodies.List column texts → got ≡ value_of (left_row row) column → passes ≡ is_listed got texts.items → Follows o n a b (RowSays schema left place (left_row row) (rule_of body) (not passes))
 says_listed o n a b schema left place row body column texts got passes same stands is value e =
     quiet o n a b _ same stands (λ t after at. subst (λ x. Says (not passes) (Holds schema (over left t) place.table (rule_of x) place.key (left_row row) → ⊥)) (sym is)
-      (split passes (sym (e ∙ ap (λ g. is_listed g texts.items) value))))
+    (split passes (sym (e ∙ ap (λ g. is_listed g texts.items) value))))
   where
     split : (r : Bool) → is_listed (value_of (left_row row) column) texts.items ≡ r → Says (not r) (IsListed (value_of (left_row row) column) texts.items → ⊥)
     split true h = λ broken. broken (listed (value_of (left_row row) column) texts.items h)
@@ -112,7 +111,7 @@ pub says_unbound : (o n : Option Tables) (a b : Option (List ReadValue)) (schema
     → Follows o n a b (RowSays schema left place (left_row row) (rule_of body) false)
 says_unbound o n a b schema left place row body column parent target bound same stands is binds e =
     quiet o n a b _ same stands (λ t after at. subst (λ x. Says false (Holds schema (over left t) place.table (rule_of x) place.key (left_row row) → ⊥)) (sym is)
-      (λ broken. broken (λ h. absurd (subst (λ r. Says r (Binds (slice_get schema parent.num) row.present)) e binds h))))
+    (λ broken. broken (λ h. absurd (subst (λ r. Says r (Binds (slice_get schema parent.num) row.present)) e binds h))))
 
 -- one that does
 pub says_referring : (o n : Option Tables) (a b : Option (List ReadValue)) (schema : List Declaration) (left : List (Place × LeftRow)) (place to : Place) (row : LeftRow) (inv : Inv) (column parent target : Ident)

@@ -1,10 +1,10 @@
 -- Changes that are made one after the other.
-use Rattle.std.proofs.Common.{◌≡◌, ℕ, ◌<◌, ◌≤◌, ◌+◌, List, [], ◌∷◌, map, length, drop, get_or, Option, Some, None, refl, sym, ap, subst, ◌∙◌}
+use Rattle.std.proofs.Common.{◌≡◌, ℕ, ◌<◌, ◌≤◌, ◌+◌, List, [], ◌∷◌, map, length, drop, get_or, Option, sym, ap, ◌∙◌}
 use Rattle.std.proofs.lemmas.List.{at_drop_more, at_drop_all}
 use Rattle.std.specs.FinMap.{get, insert}
 use Rattle.sv_app.specs.declared.places.Place.{Place}
 use Rattle.sv_app.specs.Schema.{Declaration}
-use Rattle.sv_app.specs.Tables.{Row, Tables}
+use Rattle.sv_app.specs.Tables.{Tables}
 use Rattle.sv_effect.specs.declared.ops.RowEffect.{RowEffect}
 use Rattle.sv_effect.specs.Follows.{Follows}
 use Rattle.sv_effect.specs.Reads.{ReadValue}

@@ -1,5 +1,5 @@
 -- Pairs of keys and values are put one after the other, and the least key that clashes is found.
-use Rattle.std.proofs.Common.{◌≡◌, ◌⊎◌, inl, inr, ⊎_elim, ℕ, zero, suc, ◌+◌, ◌<◌, ◌≤◌, ◌||◌, ◌&&◌, not, Bool, true, false, cond, List, [], ◌∷◌, ◌++◌, take, get_or, length, Option, Some, None, slice_get, refl, sym, ap, subst, ◌∙◌, arith}
+use Rattle.std.proofs.Common.{◌≡◌, ◌⊎◌, inl, inr, ⊎_elim, ℕ, ◌+◌, ◌<◌, ◌≤◌, Bool, true, false, cond, List, [], ◌++◌, take, get_or, length, Option, Some, None, slice_get, refl, sym, ap, subst, ◌∙◌, arith}
 use Rattle.std.specs.FinMap.{get}
 use Rattle.std.proofs.lemmas.Bool.{cases_eq}
 use Rattle.std.proofs.lemmas.List.{take_all}
@@ -8,7 +8,7 @@ use Rattle.sv_value.specs.declared.values.Key.{Key}
 use Rattle.sv_app.specs.declared.apps.Ident.{Ident}
 use Rattle.sv_app.specs.declared.gots.Got.{Got}
 use Rattle.sv_app.specs.declared.places.Place.{Place}
-use Rattle.sv_app.specs.Tables.{Row, Tables}
+use Rattle.sv_app.specs.Tables.{Tables}
 use Rattle.sv_app.specs.Valid.{place_at}
 use Rattle.sv_effect.specs.Follows.{Follows}
 use Rattle.sv_effect.specs.Reads.{ReadValue}
@@ -31,9 +31,9 @@ pub one_paired : (o m n : Option Tables) (a b c : Option (List ReadValue)) (left
     → new ≡ old ++ values_of column key (left_rows row) → Follows o n a c (λ t. new ≡ values_at (over left t) table column (take (i + 1) keys))
 one_paired o m n a b c left table column keys i key row old new less is f g more =
     next_to o m n a b c _ _ _ f g (λ t before looked.
-      more ∙ (λ j. before j ++ values_of column key (sym looked j))
-      ∙ ap (λ k. values_at (over left t) table column (take i keys) ++ values_of column k (get (over left t) (place_at table k))) is
-      ∙ flat_more (λ k. values_of column k (get (over left t) (place_at table k))) keys i key less)
+    more ∙ (λ j. before j ++ values_of column key (sym looked j))
+    ∙ ap (λ k. values_at (over left t) table column (take i keys) ++ values_of column k (get (over left t) (place_at table k))) is
+    ∙ flat_more (λ k. values_of column k (get (over left t) (place_at table k))) keys i key less)
 
 pub all_paired : (o n : Option Tables) (a b : Option (List ReadValue)) (left : List (Place × LeftRow)) (table : ℕ) (column : Ident) (keys : List Key) (i : ℕ) (pairs : List Pair) → length keys ≤ i
     → Follows o n a b (λ t. pairs ≡ values_at (over left t) table column (take i keys)) → Follows o n a b (λ t. pairs ≡ values_at (over left t) table column keys)

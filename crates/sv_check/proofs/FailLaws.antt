@@ -1,7 +1,6 @@
 -- The tests of initial rows answer as it is meant that a row breaks a rule.
-use Rattle.std.proofs.Common.{◌≡◌, ◌⊎◌, inl, inr, ℕ, zero, suc, ◌+◌, ◌<◌, ◌≤◌, ◌||◌, ◌&&◌, not, cond, Bool, true, false, List, [], ◌∷◌, ◌++◌, take, get_or, length, Option, Some, None, slice_get, nat_lt, refl, sym, ap, subst, ◌∙◌, arith}
-use Rattle.std.specs.Prelude.{map, All, pos, unwrap_or}
-use Rattle.std.specs.List.{Contains, list_any, flat_map}
+use Rattle.std.proofs.Common.{◌≡◌, ◌⊎◌, inl, inr, ℕ, zero, suc, ◌<◌, ◌||◌, ◌&&◌, not, Bool, true, false, List, [], ◌∷◌, take, length, Option, Some, None, slice_get, nat_lt, refl, sym, ap, subst, ◌∙◌, arith}
+use Rattle.std.specs.List.{Contains, flat_map}
 use Rattle.std.specs.Option.{is_some}
 use Rattle.std.specs.Ordering.{eq_by_cmp}
 use Rattle.std.specs.FinMap.{get}
@@ -9,25 +8,22 @@ use Rattle.std.proofs.lemmas.Bool.Decides.{nat_tests}
 use Rattle.std.proofs.lemmas.Cmp.{eq_by_cmp_equiv}
 use Rattle.std.proofs.lemmas.List.Folds.{list_any-append}
 use Rattle.std.proofs.lemmas.Map.Views.{tells_apart}
-use Rattle.std.proofs.lemmas.Option.{slice_get_within}
 use Rattle.sv_value.specs.declared.values.Val.{Val}
 use Rattle.sv_value.specs.declared.values.Val.TheVariants.{Int, Text as IsText}
 use Rattle.sv_app.specs.declared.apps.Ident.{Ident}
 use Rattle.sv_app.specs.declared.places.Place.{Place}
 use Rattle.sv_app.specs.declared.requests.InitRow.{InitRow}
 use Rattle.sv_app.specs.Schema.{Rule, Bound, OneOf, Different, Refers, Invariant, Declaration}
-use Rattle.sv_app.specs.Tables.{Row, place_cmp}
+use Rattle.sv_app.specs.Tables.{Row}
 use Rattle.sv_app.specs.Valid.{value_of, as_val, key_by, place_at, IsPresent, Binds, Holds, IsInvariant}
 use Rattle.sv_effect.specs.BareTables.{got_of}
-use Rattle.sv_effect.specs.Initial.{AreDistinct}
-use Rattle.sv_effect.specs.TablesOfCut.{init_place}
 use Rattle.sv_check.specs.declared.initial.Held.{Held}
 use Rattle.sv_check.specs.Initial.{initial_row, initial_tables, HasEarlier, Fails}
 use Rattle.sv_check.specs.Least.{IsOwn}
 use Rattle.sv_check.specs.Rules.{is_met, is_listed}
 use Rattle.sv_check.specs.Tests.{val_in, held_cmp, held_of, rules_of, held_by, is_held, is_there, referred, fails}
 use Rattle.sv_check.proofs.InitialLaws.{initial_at, get-initial, IsInitial, initial_from, there-initial}
-use Rattle.sv_check.proofs.ListLaws.{Stands, contained, any_at, Passes, any_passes, either_true, same_some}
+use Rattle.sv_check.proofs.ListLaws.{Stands, contained, either_true}
 use Rattle.sv_check.proofs.RuleLaws.{clash, meets, met, listed, in_list}
 use Rattle.sv_check.proofs.ValueLaws.{value-in, held_total, exact_held}
 
@@ -86,7 +82,7 @@ of_row : (row : InitRow) (invs : List Invariant) (h : Held) → is_held h (flat_
 of_row row [] h is = absurd cc
 of_row row (inv ∷ invs) h is =
     split (either_true (is_held h (held_of row inv.rule)) (is_held h (flat_map (λ inv. held_of row inv.rule) invs))
-      (sym (list_any-append (eq_by_cmp held_cmp h) (held_of row inv.rule) (flat_map (λ inv. held_of row inv.rule) invs)) ∙ is))
+    (sym (list_any-append (eq_by_cmp held_cmp h) (held_of row inv.rule) (flat_map (λ inv. held_of row inv.rule) invs)) ∙ is))
     (of_row row invs h)
   where
     first : (rule : Rule) → is_held h (held_of row rule) ≡ true → IsOf row h
@@ -117,7 +113,7 @@ row_holds row (x ∷ invs) zero inv column at is =
     let same : x ≡ inv = cc in
     list_any-append (eq_by_cmp held_cmp (held_in row column)) (held_of row x.rule) (flat_map (λ inv. held_of row inv.rule) invs)
     ∙ or_true_left (is_held (held_in row column) (held_of row x.rule)) (is_held (held_in row column) (flat_map (λ inv. held_of row inv.rule) invs))
-      (ap (λ r. is_held (held_in row column) (held_of row r)) (ap (λ z. z.rule) same ∙ is) ∙ or_true_left (eq_by_cmp held_cmp (held_in row column) (held_in row column)) false (self_held (held_in row column)))
+    (ap (λ r. is_held (held_in row column) (held_of row r)) (ap (λ z. z.rule) same ∙ is) ∙ or_true_left (eq_by_cmp held_cmp (held_in row column) (held_in row column)) false (self_held (held_in row column)))
 row_holds row (x ∷ invs) (suc k) inv column at is =
     list_any-append (eq_by_cmp held_cmp (held_in row column)) (held_of row x.rule) (flat_map (λ inv. held_of row inv.rule) invs)
     ∙ or_true_right (is_held (held_in row column) (held_of row x.rule)) (is_held (held_in row column) (flat_map (λ inv. held_of row inv.rule) invs)) (row_holds row invs k inv column at is)
@@ -209,8 +205,8 @@ breaks schema init i row (Different column) e =
 breaks schema init i row (Refers column parent target) e =
     let parts = both_true (nat_lt parent.num (length schema)) (not (is_there (referred row column.num parent.num) init)) e in
     λ holds. clash (is_there (referred row column.num parent.num) init)
-      (present_there init row column parent.num (holds (declared_binds schema parent.num (below_from parent.num (length schema) parts.0))))
-      (not_true (is_there (referred row column.num parent.num) init) parts.1)
+    (present_there init row column parent.num (holds (declared_binds schema parent.num (below_from parent.num (length schema) parts.0))))
+    (not_true (is_there (referred row column.num parent.num) init) parts.1)
 
 and_not : (a b : Bool) → (a && not b) ≡ false → a ≡ true → b ≡ true
 and_not true true e h = refl
@@ -226,7 +222,7 @@ keeps schema init i row (Different column) own e = absurd own
 keeps schema init i row (Refers column parent target) own e = λ binds.
     there_present init row column parent.num
     (and_not (nat_lt parent.num (length schema)) (is_there (referred row column.num parent.num) init) e
-      (below_true parent.num (length schema) (binds_declared schema parent.num true binds)))
+    (below_true parent.num (length schema) (binds_declared schema parent.num true binds)))
 
 pub invariants_in : (schema : List Declaration) (table : ℕ) (inv : Invariant) → IsInvariant schema table inv → Stands (rules_of (slice_get schema table)) inv
 invariants_in schema table inv is = contained (rules_of (slice_get schema table)) inv (subst (λ o. Contains (rules_of o) inv) (sym is.declared) is.among)
@@ -237,12 +233,12 @@ pub seen_before : (schema : List Declaration) (init : List InitRow) (i : ℕ) (r
 seen_before schema init i row inv column is rule earlier =
     let among : Stands (rules_of (slice_get schema row.table)) inv = invariants_in schema row.table inv is in
     let other_held : is_held (held_in earlier.other column) (held_by schema earlier.other) ≡ true =
-      row_holds earlier.other (rules_of (slice_get schema earlier.other.table)) among.number inv column
-      (ap (λ n. slice_get (rules_of (slice_get schema n)) among.number) earlier.beside ∙ among.at) rule in
+    row_holds earlier.other (rules_of (slice_get schema earlier.other.table)) among.number inv column
+    (ap (λ n. slice_get (rules_of (slice_get schema n)) among.number) earlier.beside ∙ among.at) rule in
     let value : val_in earlier.other.values column.num ≡ val_in row.values column.num =
-      got_injective _ _ (sym (value-in earlier.other.values column.num) ∙ earlier.equal ∙ value-in row.values column.num) in
+    got_injective _ _ (sym (value-in earlier.other.values column.num) ∙ earlier.equal ∙ value-in row.values column.num) in
     at_held schema init i earlier.earlier earlier.other (held_in row column) earlier.before earlier.stands
-      (subst (λ h. is_held h (held_by schema earlier.other) ≡ true) (λ j. record { table = earlier.beside j; column = column.num; val = value j }) other_held)
+    (subst (λ h. is_held h (held_by schema earlier.other) ≡ true) (λ j. record { table = earlier.beside j; column = column.num; val = value j }) other_held)
 
 -- a row that passes the test doesn't break the rule
 pub unbroken : (schema : List Declaration) (init : List InitRow) (i : ℕ) (row : InitRow) (inv : Invariant) (rule : Rule) → IsInvariant schema row.table inv → inv.rule ≡ rule

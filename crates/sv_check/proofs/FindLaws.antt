@@ -1,11 +1,11 @@
 -- Lists that are looked through from the front.
-use Rattle.std.proofs.Common.{◌≡◌, ℕ, zero, suc, ◌+◌, ◌<◌, ◌≤◌, cond, Bool, true, false, List, [], ◌∷◌, drop, get_or, length, Option, Some, None, refl, sym, ap, ◌∙◌, arith}
+use Rattle.std.proofs.Common.{◌≡◌, ℕ, ◌+◌, ◌<◌, ◌≤◌, cond, Bool, true, false, List, drop, get_or, length, Option, Some, None, refl, sym, ap, ◌∙◌}
 use Rattle.std.specs.Prelude.{map}
 use Rattle.std.specs.List.{find}
 use Rattle.std.specs.Option.{option_map}
 use Rattle.std.proofs.lemmas.List.{drop_more, drop_all}
 use Rattle.sv_app.specs.declared.schemas.Inv.{Inv}
-use Rattle.sv_app.specs.Schema.{Invariant, Rule, rule_of, invariant_of}
+use Rattle.sv_app.specs.Schema.{Rule, rule_of, invariant_of}
 
 abbrev sought : (Rule → Bool) → List Inv → Option ℕ
 sought test invs = option_map (λ inv. inv.number) (find (λ inv. test inv.rule) (map invariant_of invs))

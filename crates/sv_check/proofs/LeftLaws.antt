@@ -1,9 +1,8 @@
 -- A row that a change left hides the one before it; and a row that was told of is the one that stands there.
-use Rattle.std.proofs.Common.{◌≡◌, ◌≢◌, Bool, true, false, cond, List, [], ◌∷◌, Option, Some, None, refl, sym, ap, subst, ◌∙◌}
-use Rattle.std.specs.FinMap.{get, insert, get-insert}
-use Rattle.sv_value.specs.declared.values.Key.{Key}
+use Rattle.std.proofs.Common.{◌≡◌, true, false, cond, List, ◌∷◌, Option, Some, None, refl, sym, ap, ◌∙◌}
+use Rattle.std.specs.FinMap.{get, get-insert}
 use Rattle.sv_app.specs.declared.places.Place.{Place}
-use Rattle.sv_app.specs.Tables.{place_cmp, Row, Tables}
+use Rattle.sv_app.specs.Tables.{Row, Tables}
 use Rattle.sv_app.proofs.PlaceLaws.{place_total}
 use Rattle.sv_effect.specs.Agrees.{place_at, seen_in, seen_at}
 use Rattle.sv_effect.specs.Follows.{Follows}
@@ -11,7 +10,7 @@ use Rattle.sv_effect.specs.Reads.{SeenValue, ReadValue}
 use Rattle.sv_effect.specs.TablesOfCut.{is_place}
 use Rattle.sv_effect.proofs.FollowLaws.{quiet, so}
 use Rattle.sv_check.specs.declared.left.LeftRow.{LeftRow}
-use Rattle.sv_check.specs.Left.{over, left_row, left_rows, hides, lent, told_row}
+use Rattle.sv_check.specs.Left.{over, left_row, left_rows, told_row}
 
 pub left_here : (e : Place × LeftRow) (es : List (Place × LeftRow)) (t : Tables) (p : Place) → is_place p e.0 ≡ true → get (over (e ∷ es) t) p ≡ Some (left_row e.1)
 left_here e es t p h = get-insert place_total (over es t) e.0 (left_row e.1) p ∙ ap (λ b. cond b (Some (left_row e.1)) (get (over es t) p)) h

@@ -10,9 +10,12 @@ pub mod LeastLaws
 pub mod LeftLaws
 pub mod ListLaws
 pub mod RuleLaws
+pub mod SampleLaws
 pub mod SetLaws
 pub mod SlotLaws
+pub mod StartLaws
 pub mod TableLaws
 pub mod ValueLaws
+pub mod VerdictLaws
 pub mod WalkLaws
 pub mod WriteLaws

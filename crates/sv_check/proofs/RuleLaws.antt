@@ -1,18 +1,15 @@
 -- The tests of checks and lists answer as these are meant; and where a rule can't fail, it holds.
-use Rattle.std.proofs.Common.{◌≡◌, ◌⊎◌, inl, inr, ℕ, ℤ, Bool, true, false, List, Option, Some, None, refl, sym, ap, ◌∙◌, arith}
+use Rattle.std.proofs.Common.{◌≡◌, ℕ, ℤ, Bool, true, false, List, refl, arith}
 use Rattle.std.specs.Prelude.{int_le, ◌≤ℤ◌}
-use Rattle.std.specs.List.{Contains, list_any}
-use Rattle.std.specs.Ordering.{eq_by_cmp}
 use Rattle.std.proofs.lemmas.Int.{ints}
 use Rattle.std.proofs.lemmas.Cmp.{eq_by_cmp_equiv}
 use Rattle.std.proofs.lemmas.Map.Views.{tells_apart, Contains-from_any, list_any-from_Contains}
-use Rattle.sv_value.specs.Orders.{text_cmp}
 use Rattle.sv_value.proofs.OrderLaws.{text_total, exact_texts}
 use Rattle.sv_app.specs.declared.gots.Got.{Got}
 use Rattle.sv_app.specs.declared.gots.Got.TheVariants.{Num, Text}
 use Rattle.sv_app.specs.declared.schemas.Check.{Check}
 use Rattle.sv_app.specs.Tables.{Row}
-use Rattle.sv_app.specs.Valid.{side_of, Meets, IsListed}
+use Rattle.sv_app.specs.Valid.{Meets, IsListed}
 use Rattle.sv_check.specs.Rules.{is_met, is_listed}
 
 pub clash : {P : Type 0} (b : Bool) → b ≡ true → b ≡ false → P

@@ -58,4 +58,4 @@ noted_more {K} {A} R f xs i x b now next q lt is before after =
     after ∙ ap (λ h. h || list_any (eq_by_cmp R q) (f x)) before
     ∙ or_either b (list_any (eq_by_cmp R q) (flat_map f (take i xs))) (list_any (eq_by_cmp R q) (f x))
     ∙ ap (λ h. b || h) (sym (list_any-append (eq_by_cmp R q) (flat_map f (take i xs)) (f x))
-      ∙ ap (λ y. list_any (eq_by_cmp R q) (flat_map f (take i xs) ++ f y)) is ∙ ap (list_any (eq_by_cmp R q)) (flat_more f xs i x lt))
+    ∙ ap (λ y. list_any (eq_by_cmp R q) (flat_map f (take i xs) ++ f y)) is ∙ ap (list_any (eq_by_cmp R q)) (flat_more f xs i x lt))

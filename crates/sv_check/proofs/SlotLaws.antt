@@ -1,5 +1,5 @@
 -- How a list by numbers is put into: where the number is there, it is set; behind the end, the list is filled first.
-use Rattle.std.proofs.Common.{◌≡◌, ℕ, zero, suc, ◌<◌, ◌≤◌, List, [], ◌∷◌, ◌++◌, length, refl, sym, ap, ◌∙◌, arith}
+use Rattle.std.proofs.Common.{◌≡◌, ℕ, zero, suc, ◌<◌, List, [], ◌∷◌, ◌++◌, length, refl, ap, arith}
 use Rattle.std.specs.Prelude.{slice_set}
 use Rattle.sv_app.specs.Slots.{with_item}
 

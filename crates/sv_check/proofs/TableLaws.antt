@@ -1,5 +1,5 @@
 -- The tables of an application, and what is declared of them.
-use Rattle.std.proofs.Common.{◌≡◌, ℕ, zero, suc, ◌<◌, ◌≤◌, List, [], ◌∷◌, length, get_or, Some, None, slice_get, refl, sym, ap, ◌∙◌, arith}
+use Rattle.std.proofs.Common.{◌≡◌, ℕ, zero, suc, ◌<◌, ◌≤◌, List, [], ◌∷◌, length, get_or, Some, None, slice_get, refl, sym, ap, arith}
 use Rattle.std.specs.Prelude.{map}
 use Rattle.sv_app.specs.declared.schemas.Table.{Table}
 use Rattle.sv_app.specs.Schema.{declaration_of, schema_of, invariant_of}
@@ -17,6 +17,10 @@ pub undeclared : (tables : List Table) (n : ℕ) → length tables ≤ n → sli
 undeclared [] n le = refl
 undeclared (t ∷ tables) zero le = absurd (omega (arith, le))
 undeclared (t ∷ tables) (suc n) le = undeclared tables n (omega (arith, le))
+
+pub schema_long : (tables : List Table) → length (schema_of tables) ≡ length tables
+schema_long [] = refl
+schema_long (t ∷ tables) = let ih : length (schema_of tables) ≡ length tables = schema_long tables in omega (arith, ih)
 
 pub rules_at : (tables : List Table) (n : ℕ) (d : Table) → n < length tables → map invariant_of (get_or tables n d).invs.items ≡ rules_of (slice_get (schema_of tables) n)
 rules_at tables n d less = sym (ap rules_of (declared_as tables n d less))

@@ -6,10 +6,9 @@ use Rattle.std.proofs.lemmas.Map.Lookups.{CmpEqualImpliesEq, exact_pairs, exact_
 use Rattle.sv_value.specs.Orders.{val_cmp}
 use Rattle.sv_value.proofs.OrderLaws.{val_total, exact_vals}
 use Rattle.sv_check.specs.declared.initial.Held.{Held}
-use Rattle.std.proofs.Common.{◌≡◌, ℕ, zero, suc, List, [], ◌∷◌, Some, None, slice_get, refl, ap}
+use Rattle.std.proofs.Common.{◌≡◌, ℕ, zero, suc, List, [], ◌∷◌, slice_get, refl, ap}
 use Rattle.std.specs.Prelude.{pos, map, unwrap_or}
 use Rattle.sv_value.specs.declared.values.Val.{Val}
-use Rattle.sv_app.specs.declared.gots.Got.{Got}
 use Rattle.sv_app.specs.declared.gots.Got.TheVariants.{Num}
 use Rattle.sv_effect.specs.BareTables.{got_of}
 use Rattle.sv_check.specs.Tests.{val_in, held_cmp}

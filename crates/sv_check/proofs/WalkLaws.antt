@@ -1,18 +1,17 @@
 -- Keys that are walked from one to the next, and those of rows that changes left.
-use Rattle.std.proofs.Common.{◌≡◌, ◌≢◌, ◌⊎◌, inl, inr, ⊎_elim, ℕ, zero, suc, ◌+◌, ◌<◌, ◌≤◌, ◌||◌, ◌&&◌, ◌==◌, Bool, true, false, cond, List, [], ◌∷◌, ◌++◌, take, get_or, length, Option, Some, None, refl, sym, ap, subst, ◌∙◌, arith}
-use Rattle.std.specs.List.{list_any}
+use Rattle.std.proofs.Common.{◌≡◌, ℕ, ◌+◌, ◌<◌, ◌||◌, ◌==◌, Bool, true, false, List, [], ◌∷◌, ◌++◌, take, get_or, length, Option, Some, None, refl, sym, ap, subst, ◌∙◌, arith}
 use Rattle.std.specs.declared.cmp.Ordering.{Ordering}
 use Rattle.std.specs.declared.cmp.Ordering.TheVariants.{Less, Equal, Greater}
 use Rattle.std.specs.Ordering.{is_lt, is_eq, nat_cmp, ordering_then, eq_by_cmp}
 use Rattle.std.proofs.lemmas.Bool.Decides.{nat_tests}
 use Rattle.std.proofs.lemmas.Cmp.{eq_by_cmp_equiv}
-use Rattle.std.proofs.lemmas.List.{take_more, take_all}
+use Rattle.std.proofs.lemmas.List.{take_more}
 use Rattle.std.proofs.lemmas.List.Folds.{list_any-append}
 use Rattle.sv_value.specs.declared.values.Key.{Key}
 use Rattle.sv_value.specs.Orders.{key_cmp}
 use Rattle.sv_value.proofs.OrderLaws.{key_total}
 use Rattle.sv_app.specs.declared.places.Place.{Place}
-use Rattle.sv_app.specs.Tables.{Tables, place_cmp}
+use Rattle.sv_app.specs.Tables.{Tables}
 use Rattle.sv_app.specs.Valid.{place_at}
 use Rattle.sv_effect.specs.Agrees.{is_present, is_after, IsNextKey}
 use Rattle.sv_effect.specs.Follows.{Follows}
@@ -81,7 +80,7 @@ same_table table key p e = ap (λ o. is_eq (ordering_then o (key_cmp key p.key))
     tie : (n m : ℕ) → (m == n) ≡ true → nat_cmp n m ≡ Equal
     tie n m e = grind (arith, nat_tests)
 
-other_table : (table : ℕ) (key : Key) (p : Place) → (p.table == table) ≡ false → is_place (place_at table key) p ≡ false
+pub other_table : (table : ℕ) (key : Key) (p : Place) → (p.table == table) ≡ false → is_place (place_at table key) p ≡ false
 other_table table key p e = split (nat_cmp table p.table) refl
   where
     untied : (n m : ℕ) → (m == n) ≡ false → nat_cmp n m ≡ Equal → ⊥

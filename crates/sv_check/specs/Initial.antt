@@ -1,15 +1,18 @@
 -- The tables of initial rows, and the first of these rows that breaks an invariant with all of them.
-use Rattle.std.specs.Prelude.{◌≡◌, ◌⊎◌, ℕ, ◌<◌, ◌≤◌, true, List, [], ◌∷◌, map, Option, Some, None, slice_get}
+use Rattle.std.specs.Prelude.{◌≡◌, ◌⊎◌, ℕ, ◌<◌, ◌≤◌, true, All, List, [], ◌∷◌, map, Option, Some, None, slice_get}
 use Rattle.std.specs.FinMap as map_of
 use Rattle.std.specs.FinMap.{insert}
 use Rattle.sv_app.specs.declared.apps.Ident.{Ident}
 use Rattle.sv_app.specs.declared.requests.InitRow.{InitRow}
+use Rattle.sv_app.specs.Accepted.{AcceptedSchema}
 use Rattle.sv_app.specs.Schema.{Rule, Bound, OneOf, Different, Refers, Invariant, Declaration}
 use Rattle.sv_app.specs.Tables.{Row, Tables}
 use Rattle.sv_app.specs.Valid.{value_of, Holds, IsInvariant, Valid}
 use Rattle.sv_effect.specs.Run.{row_with}
-use Rattle.sv_effect.specs.BareTables.{got_of}
-use Rattle.sv_effect.specs.TablesOfCut.{init_place}
+use Rattle.sv_effect.specs.BareTables.{got_of, bare}
+use Rattle.sv_effect.specs.Cut.{empty}
+use Rattle.sv_effect.specs.Initial.{InitFits}
+use Rattle.sv_effect.specs.TablesOfCut.{init_place, tables_held}
 
 -- each is present
 abbrev pub initial_row : InitRow → Row
@@ -53,3 +56,7 @@ pub record IsFirst (schema : List Declaration) (init : List InitRow) (place numb
 abbrev pub IsAnswer : List Declaration → List InitRow → Option (ℕ × ℕ) → Type 0
 IsAnswer schema init None = Valid schema (initial_tables init)
 IsAnswer schema init (Some found) = IsFirst schema init found.1 found.0
+
+-- the tables that a store starts with, without their stamps
+abbrev pub StoresStart : Type 0
+StoresStart = (schema : List Declaration) (init : List InitRow) → AcceptedSchema schema → All (InitFits schema) init → bare (tables_held schema init empty) ≡ initial_tables init

@@ -75,6 +75,10 @@ LeastAmong schema left table rule keys found t = IsAfter schema left t → IsLea
 abbrev pub LeastBroken : List Declaration → List (Place × LeftRow) → ℕ → Rule → Option Key → Tables → Type 0
 LeastBroken schema left table rule found t = IsAfter schema left t → IsLeast (BrokenAt schema (over left t) table rule) found
 
+-- whether changes left a row of the table
+abbrev pub is_touched : List (Place × LeftRow) → ℕ → Bool
+is_touched left table = list_any (λ e. e.0.table == table) left
+
 -- whether rows that no change left may break the rule: another row may have their value, or the row that they refer to may be gone
 abbrev pub walks : Rule → List (Place × LeftRow) → Bool
 walks (Bound check) left = false

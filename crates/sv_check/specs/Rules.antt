@@ -1,5 +1,5 @@
 -- What checks and lists ask of values, as tests.
-use Rattle.std.specs.Prelude.{ℕ, pos, neg_ℤ, ◌^◌, ◌-ℤ◌, ◌≤ℤ◌, int_le, Bool, false, List}
+use Rattle.std.specs.Prelude.{ℕ, ◌-ℤ◌, int_le, Bool, false, List}
 use Rattle.std.specs.List.{list_any}
 use Rattle.std.specs.Ordering.{eq_by_cmp}
 use Rattle.sv_value.specs.Orders.{text_cmp}
@@ -8,11 +8,6 @@ use Rattle.sv_app.specs.declared.gots.Got.TheVariants.{Num, Text}
 use Rattle.sv_app.specs.declared.schemas.Check.{Check}
 use Rattle.sv_app.specs.Tables.{Row}
 use Rattle.sv_app.specs.Valid.{side_of}
-
--- a number so small that a difference of two doesn't leave 128 bits
-abbrev pub IsSmall : Got → Type 0
-IsSmall (Num n) = (neg_ℤ (pos (2 ^ 120)) ≤ℤ n) × (n ≤ℤ pos (2 ^ 120))
-IsSmall (Text text) = Unit {0}
 
 abbrev pub is_met : Row → Check → Bool
 is_met row check = int_le (side_of row check.hi -ℤ side_of row check.lo) check.most

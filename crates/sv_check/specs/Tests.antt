@@ -1,5 +1,5 @@
 -- By what an initial row is judged: the places of all rows, and the values that earlier rows have in unique columns.
-use Rattle.std.specs.Prelude.{ℕ, pos, nat_lt, ◌&&◌, not, Bool, true, false, List, [], ◌∷◌, length, Option, Some, None, map, slice_get, unwrap_or}
+use Rattle.std.specs.Prelude.{ℕ, pos, nat_lt, ◌&&◌, not, Bool, List, [], ◌∷◌, length, Option, Some, None, map, slice_get, unwrap_or}
 use Rattle.std.specs.List.{list_any, flat_map, find}
 use Rattle.std.specs.Option.{option_map}
 use Rattle.std.specs.declared.cmp.Ordering.{Ordering}

@@ -1,23 +1,89 @@
-ghost use Rattle.std.specs.Prelude.{◌≡◌, ◌≤◌, false, true, List, Option, Err, IfOk, length, map};
+//! Invariants after changes.
+
+ghost use Rattle.std.specs.Prelude.{◌≡◌, ◌≤◌, ◌<◌, false, List, Err, IfOk, length, map, slice_get};
 ghost use Rattle.sv_app.specs.Accepted.{AcceptedSchema};
-ghost use Rattle.sv_app.specs.Schema.{Declaration, schema_of};
+ghost use Rattle.sv_app.specs.Schema.{Declaration, schema_of, invariant_of};
 ghost use Rattle.sv_effect.specs.declared.reads.Ask.{Ask as AskValue};
 ghost use Rattle.sv_effect.specs.declared.reads.Halt.TheVariants as halt;
 ghost use Rattle.sv_effect.specs.Fits.{AllFit};
 ghost use Rattle.sv_effect.specs.Follows.{Follows};
 ghost use Rattle.sv_effect.specs.RunChanges.{effect_of};
-ghost use Rattle.sv_check.specs.Verdicts.{Judges};
+ghost use Rattle.sv_check.specs.Tests.{rules_of};
+ghost use Rattle.sv_check.specs.Verdicts.{Judges, TableSays, AllSay};
 
+use crate::changes::rows_after;
+use crate::least::least_broken;
+use crate::left::LeftRow;
 use crate::verdicts::Verdict;
 use std::alloc::Global;
-use sv_app::App;
+use sv_app::{App, Inv, Place};
 use sv_effect::{Halt, RowEffect, Rows};
+
+/// The first of the table's invariants that is broken after the changes, and the least key at which it is.
+fn first_in<R: Rows>(
+    alloc: Global,
+    app: &App,
+    table: u16,
+    invs: &[Inv],
+    left: &[(Place, LeftRow)],
+    rows: &mut R,
+) -> Result<Verdict, Halt>
+    requires { map invariant_of invs.now ≡ rules_of (slice_get (schema_of app.now.tables.items) table) }
+    ensures followed { IfOk result (λ verdict. Follows (R.tables rows.old) (R.tables rows.new) (R.noted rows.old) (R.noted rows.new)
+        (TableSays (schema_of app.now.tables.items) left.now table verdict)) }
+    ensures same_app { (schema : List Declaration) → R.is_of rows.old schema → R.is_of rows.new schema }
+    ensures same_tables { R.tables rows.new ≡ R.tables rows.old }
+    ensures same_knows { R.knows rows.new ≡ R.knows rows.old }
+    ensures same_rest { R.rest rows.new ≡ R.rest rows.old }
+    ensures missing { (a : AskValue) → result ≡ Err (halt.Missing a) → R.knows rows.old a ≡ false }
+{
+    for inv in invs {
+        match least_broken(alloc, app, table, inv, left, rows)? {
+            Some(key) => {
+                return Ok(Verdict::Breaks {
+                    inv: inv.number,
+                    key,
+                });
+            }
+            None => {}
+        }
+    }
+    Ok(Verdict::Keeps)
+}
+
+/// The first invariant of all that is broken after the changes, and the least key at which it is.
+fn first_broken<R: Rows>(
+    alloc: Global,
+    app: &App,
+    left: &[(Place, LeftRow)],
+    rows: &mut R,
+) -> Result<Verdict, Halt>
+    requires { AcceptedSchema (schema_of app.now.tables.items) }
+    ensures followed { IfOk result (λ verdict. Follows (R.tables rows.old) (R.tables rows.new) (R.noted rows.old) (R.noted rows.new)
+        (AllSay (schema_of app.now.tables.items) left.now verdict)) }
+    ensures same_app { (schema : List Declaration) → R.is_of rows.old schema → R.is_of rows.new schema }
+    ensures same_tables { R.tables rows.new ≡ R.tables rows.old }
+    ensures same_knows { R.knows rows.new ≡ R.knows rows.old }
+    ensures same_rest { R.rest rows.new ≡ R.rest rows.old }
+    ensures missing { (a : AskValue) → result ≡ Err (halt.Missing a) → R.knows rows.old a ≡ false }
+{
+    for table in 0..app.tables.len() {
+        let invs = app.tables[table].invs.as_slice();
+        match first_in(alloc, app, table as u16, invs, left, rows)? {
+            Verdict::Breaks { inv, key } => return Ok(Verdict::Breaks { inv, key }),
+            Verdict::Keeps => {}
+        }
+    }
+    Ok(Verdict::Keeps)
+}
 
 /// Whether every invariant holds after the changes, each write winning, or which is broken, the first, and the least key
 /// at which it is. So it is for all valid tables that agree with what was read, and in which each row that is updated or
 /// removed is kept or was inserted by an earlier change. It asks for rows that the changes touch or refer to; for
-/// uniqueness, and where a row was removed to which others may refer, it walks the table that holds the column. The
+/// uniqueness in a table that they touch, and where a row was removed to which others may refer, it walks the table that
+/// holds the column. The
 /// application is accepted, the rows are of it, the changes fit it, and there are at most 64.
+#[tactic(auto, using(crate::proofs::VerdictLaws::judging))]
 pub fn check_after<R: Rows>(
     alloc: Global,
     app: &App,
@@ -36,5 +102,7 @@ pub fn check_after<R: Rows>(
     ensures same_rest { R.rest rows.new ≡ R.rest rows.old }
     ensures missing { (ask : AskValue) → result ≡ Err (halt.Missing ask) → R.knows rows.old ask ≡ false }
 {
-    Err(Halt::NoMemory)
+    let left = rows_after(alloc, app, effects, rows)?;
+    let verdict = first_broken(alloc, app, &left, rows)?;
+    Ok(verdict)
 }

@@ -13,7 +13,7 @@ ghost use Rattle.sv_check.specs.Least.{Says, has_absent, IsOwn, RowSays, PlaceSa
 ghost use Rattle.sv_check.specs.Rules.{is_met};
 
 use crate::left::{LeftRow, is_place, left_at, look};
-use crate::rules::{is_listed, is_small, is_within};
+use crate::rules::{is_listed, is_within};
 use std::alloc::Global;
 use sv_app::{App, Check, Got, Ident, Inv, InvBody, Kind, Place};
 use sv_effect::{Halt, Rows, ask_row};
@@ -42,18 +42,13 @@ fn side_of(row: &LeftRow, side: Option<Ident>) -> Got
     }
 }
 
-fn is_met(row: &LeftRow, check: &Check) -> Result<bool, NoMemory>
-    ensures { IfOk result (λ met. met ≡ is_met (left_row row.now) check.now) }
+fn is_met(row: &LeftRow, check: &Check) -> bool
+    ensures { result ≡ is_met (left_row row.now) check.now }
 {
-    let hi = side_of(row, check.hi);
-    let lo = side_of(row, check.lo);
-    if !is_small(&hi) || !is_small(&lo) {
-        return Err(NoMemory);
-    }
-    Ok(is_within(hi, lo, check.most))
+    is_within(side_of(row, check.hi), side_of(row, check.lo), check.most)
 }
 
-/// The key that the value is.
+/// The key that the value is. A column that refers holds no number beyond 64 bits, so none is refused for that.
 fn key_by(got: &Got) -> Result<Key, NoMemory>
     ensures { IfOk result (λ key. key ≡ key_by got.now) }
 {
@@ -164,10 +159,7 @@ fn row_breaks<R: Rows>(
     ensures missing { (a : AskValue) → result ≡ Err (halt.Missing a) → R.knows rows.old a ≡ false }
 {
     match &inv.body {
-        InvBody::Check(check) => {
-            let met = is_met(row, check)?;
-            Ok(!met)
-        }
+        InvBody::Check(check) => Ok(!is_met(row, check)),
         InvBody::List { col, texts } => Ok(!is_listed(&value_of(row, col), texts.as_slice())),
         InvBody::Unique { .. } => unreachable!(),
         InvBody::Refers { col, table, .. } => {

@@ -10,17 +10,16 @@ ghost use Rattle.sv_app.specs.Accepted.{AcceptedSchema};
 ghost use Rattle.sv_app.specs.Schema.{schema_of, rule_of, invariant_of, declaration_of};
 ghost use Rattle.sv_app.specs.Tables.{place_cmp};
 ghost use Rattle.sv_app.specs.Valid.{Valid, number_of, value_of, side_of};
-ghost use Rattle.sv_effect.specs.BareTables.{got_of};
 ghost use Rattle.sv_effect.specs.Initial.{InitFits, AreDistinct};
 ghost use Rattle.sv_effect.specs.TablesOfCut.{init_place};
 ghost use Rattle.sv_check.specs.declared.initial.Held.{Held as HeldValue};
 ghost use Rattle.sv_check.specs.Initial.{initial_row, initial_tables, IsAnswer};
-ghost use Rattle.sv_check.specs.Rules.{IsSmall};
 ghost use Rattle.sv_check.specs.Tests.{val_in, held_cmp, held_of, held_by, is_held, is_there, referred, rules_of, fails, first_failed};
 
+use crate::rules::{is_listed, is_within};
+use crate::writes::got_of;
 use std::alloc::Global;
 use std::collections::BTreeSet;
-use crate::rules::{is_listed, is_within};
 use sv_app::{App, Got, Ident, InitRow, Inv, InvBody, Place, Table};
 use sv_value::{Key, NoMemory, Val};
 
@@ -44,28 +43,16 @@ fn val_in(values: &[Val], column: u16) -> Val
     }
 }
 
-fn got_of(val: Val) -> Got
-    ensures value { result ≡ got_of val }
-    ensures small { IsSmall result }
-{
-    match val {
-        Val::Int(number) => Got::Num(number as i128),
-        Val::Text(text) => Got::Text(text),
-    }
-}
-
 #[tactic(auto, using(crate::proofs::ValueLaws::values))]
 fn value_of(row: &InitRow, column: &Ident) -> Got
-    ensures value { result ≡ value_of (initial_row row.now) column.now }
-    ensures small { IsSmall result }
+    ensures { result ≡ value_of (initial_row row.now) column.now }
 {
-    got_of(val_in(row.values.items(), column.num))
+    got_of(&val_in(row.values.items(), column.num))
 }
 
 /// A side of a check.
 fn side_of(row: &InitRow, side: Option<Ident>) -> Got
-    ensures value { number_of result ≡ side_of (initial_row row.now) side }
-    ensures small { IsSmall result }
+    ensures { number_of result ≡ side_of (initial_row row.now) side }
 {
     match side {
         Some(column) => value_of(row, &column),
@@ -194,11 +181,7 @@ fn note(invs: &[Inv], row: &InitRow, earlier: &mut BTreeSet<Held>) -> Result<(),
 /// that it breaks, which is answered before the row. Of two rows with equal values of a unique column the later one
 /// breaks it. It is none exactly where the tables of the initial rows are valid. The application is accepted, the rows
 /// fit it, no two stand at one place, and there are at most 4,096 of them.
-pub fn check_all(
-    alloc: Global,
-    app: &App,
-    init: &[InitRow],
-) -> Result<Option<(u16, u32)>, NoMemory>
+pub fn check_all(alloc: Global, app: &App, init: &[InitRow]) -> Result<Option<(u16, u32)>, NoMemory>
     requires accepted { AcceptedSchema (schema_of app.now.tables.items) }
     requires fits { All (InitFits (schema_of app.now.tables.items)) init.now }
     requires distinct { AreDistinct init.now }

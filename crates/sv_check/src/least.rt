@@ -6,7 +6,7 @@ ghost use Rattle.sv_app.specs.Valid.{IsInvariant};
 ghost use Rattle.sv_effect.specs.declared.reads.Ask.{Ask as AskValue};
 ghost use Rattle.sv_effect.specs.declared.reads.Halt.TheVariants as halt;
 ghost use Rattle.sv_effect.specs.Follows.{Follows};
-ghost use Rattle.sv_check.specs.Least.{lesser, IsOwn, LeastAmong, LeastBroken, walks};
+ghost use Rattle.sv_check.specs.Least.{lesser, IsOwn, LeastAmong, LeastBroken, is_touched, walks};
 
 use crate::broken::{has_absent, is_broken};
 use crate::clashes::{least_clash, present_values};
@@ -57,6 +57,18 @@ fn least_among<R: Rows>(
     Ok(found)
 }
 
+/// Whether changes left a row of the table.
+fn is_touched(left: &[(Place, LeftRow)], table: u16) -> bool
+    ensures { result ≡ is_touched left.now table }
+{
+    for (place, _) in left {
+        if place.table == table {
+            return true;
+        }
+    }
+    false
+}
+
 /// Whether rows that no change left may break the rule.
 fn walks(inv: &Inv, left: &[(Place, LeftRow)]) -> bool
     ensures { result ≡ walks (rule_of inv.now.body) left.now }
@@ -87,12 +99,19 @@ pub fn least_broken<R: Rows>(
     ensures same_rest { R.rest rows.new ≡ R.rest rows.old }
     ensures missing { (a : AskValue) → result ≡ Err (halt.Missing a) → R.knows rows.old a ≡ false }
 {
-    let keys = candidates(alloc, left, table, walks(inv, left), rows)?;
-    if let InvBody::Unique { col } = &inv.body {
-        let pairs = present_values(alloc, left, table, col, &keys, rows)?;
-        Ok(least_clash(&pairs))
-    } else {
-        let found = least_among(alloc, app, table, inv, &keys, left, rows)?;
-        Ok(found)
+    match &inv.body {
+        InvBody::Unique { col } => {
+            if !is_touched(left, table) {
+                return Ok(None);
+            }
+            let keys = candidates(alloc, left, table, true, rows)?;
+            let pairs = present_values(alloc, left, table, col, &keys, rows)?;
+            Ok(least_clash(&pairs))
+        }
+        InvBody::Check(_) | InvBody::List { .. } | InvBody::Refers { .. } => {
+            let keys = candidates(alloc, left, table, walks(inv, left), rows)?;
+            let found = least_among(alloc, app, table, inv, &keys, left, rows)?;
+            Ok(found)
+        }
     }
 }

@@ -7,12 +7,16 @@ mod changes;
 mod clashes;
 mod initial;
 mod keys;
+mod laws;
 mod least;
 mod left;
 mod rules;
+#[cfg(test)]
+mod tests;
 mod verdicts;
 mod writes;
 
 pub use after::check_after;
 pub use initial::check_all;
+pub use laws::stores_start;
 pub use verdicts::Verdict;

@@ -1,49 +1,34 @@
 //! What checks and lists ask of values.
 
-ghost use Rattle.std.specs.Prelude.{◌≡◌, ◌-ℤ◌, int_le, true};
+ghost use Rattle.std.specs.Prelude.{◌≡◌, ◌-ℤ◌, int_le};
 ghost use Rattle.sv_app.specs.declared.gots.Got.TheVariants as gots;
 ghost use Rattle.sv_app.specs.Valid.{number_of};
-ghost use Rattle.sv_check.specs.Rules.{IsSmall, is_listed};
+ghost use Rattle.sv_check.specs.Rules.{is_listed};
 
 use sv_app::Got;
 use sv_value::Text;
 
-/// What one number is above another; a text counts as zero.
-fn above(hi: Got, lo: Got) -> Got
-    requires hi { IsSmall hi }
-    requires lo { IsSmall lo }
-    ensures { result ≡ gots.Num (number_of hi -ℤ number_of lo) }
-{
-    match (hi, lo) {
-        (Got::Num(hi), Got::Num(lo)) => Got::Num(hi - lo),
-        (Got::Num(hi), Got::Text(_)) => Got::Num(hi),
-        (Got::Text(_), Got::Num(lo)) => Got::Num(0 - lo),
-        (Got::Text(_), Got::Text(_)) => Got::Num(0),
-    }
-}
-
-/// Whether a difference is at most so much; a text counts as zero.
-pub(crate) fn is_within(hi: Got, lo: Got, most: i64) -> bool
-    requires hi { IsSmall hi }
-    requires lo { IsSmall lo }
-    ensures { result ≡ int_le (number_of hi -ℤ number_of lo) most }
-{
-    match above(hi, lo) {
-        Got::Num(difference) => difference <= most as i128,
-        Got::Text(_) => unreachable!(),
-    }
-}
-
-/// Whether a difference to it can't leave 128 bits.
-pub(crate) fn is_small(got: &Got) -> bool
-    ensures { result ≡ true → IsSmall got.now }
+/// The number that it is; a text counts as zero.
+fn as_number(got: Got) -> Got
+    ensures { result ≡ gots.Num (number_of got) }
 {
     match got {
-        Got::Num(number) => {
-            *number >= -1_329_227_995_784_915_872_903_807_060_280_344_576
-                && *number <= 1_329_227_995_784_915_872_903_807_060_280_344_576
-        }
-        Got::Text(_) => true,
+        Got::Num(number) => Got::Num(number),
+        Got::Text(_) => Got::Num(0),
+    }
+}
+
+/// Whether a difference is at most so much; a text counts as zero. A difference that leaves 128 bits has the sign of its
+/// first number.
+pub(crate) fn is_within(hi: Got, lo: Got, most: i64) -> bool
+    ensures { result ≡ int_le (number_of hi -ℤ number_of lo) most }
+{
+    match (as_number(hi), as_number(lo)) {
+        (Got::Num(hi), Got::Num(lo)) => match hi.checked_sub(lo) {
+            Some(difference) => difference <= most as i128,
+            None => hi < 0,
+        },
+        _ => unreachable!(),
     }
 }
 

@@ -67,7 +67,9 @@ fn written(write: &Write, old: &Got) -> Option<Got>
 {
     match (write, old) {
         (Write::Set(val), _) => Some(got_of(val)),
-        (Write::Delta(delta), Got::Num(number)) => Some(Got::Num(number.checked_add(*delta as i128)?)),
+        (Write::Delta(delta), Got::Num(number)) => Some(Got::Num(number.checked_add(
+            *delta as i128,
+        )?)),
         (Write::Delta(_), Got::Text(text)) => Some(Got::Text(*text)),
     }
 }

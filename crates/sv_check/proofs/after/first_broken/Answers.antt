@@ -1,0 +1,24 @@
+use Rattle.std.proofs.Common.{◌≤◌, length, ◌∙◌, arith}
+use Rattle.sv_app.specs.Schema.{schema_of}
+use Rattle.sv_check.proofs.TableLaws.{schema_long}
+use Rattle.sv_check.proofs.VerdictLaws.{one_table, first_table, no_table_breaks}
+use Rattle.sv_check.proofs.after.first_broken.Goals as goal
+
+pub returns-in-Breaks-clause-followed : goal.returns-in-Breaks-clause-followed
+returns-in-Breaks-clause-followed g c =
+    first_table _ _ _ _ _ _ (schema_of c.args.app.now.tables.items) c.args.left.now c.loop-table.table c.in_ok-inv.field-0 c.in-Breaks.inv c.in-Breaks.key
+    c.loop-table.invariant.passed c.in_ok-inv.ensures.followed c.in-Breaks.is
+
+pub loop-table-preserved : goal.loop-table-preserved
+loop-table-preserved g c = record {
+  passed = one_table _ _ _ _ _ _ (schema_of c.args.app.now.tables.items) c.args.left.now c.loop-table.table c.in_ok-inv.field-0 c.loop-table.invariant.passed c.in_ok-inv.ensures.followed c.in-Keeps.is;
+  same_app = λ schema h. c.in_ok-inv.ensures.same_app schema (c.loop-table.invariant.same_app schema h);
+  same_tables = c.in_ok-inv.ensures.same_tables ∙ c.loop-table.invariant.same_tables;
+  same_knows = c.in_ok-inv.ensures.same_knows ∙ c.loop-table.invariant.same_knows;
+  same_rest = c.in_ok-inv.ensures.same_rest ∙ c.loop-table.invariant.same_rest;
+}
+
+pub returns-clause-followed : goal.returns-clause-followed
+returns-clause-followed g c =
+    let le : length (schema_of c.args.app.now.tables.items) ≤ c.loop-table.table = omega (arith, c.loop-table-test.false, c.len-table-end.ensures, schema_long c.args.app.now.tables.items) in
+    no_table_breaks _ _ _ _ (schema_of c.args.app.now.tables.items) c.args.left.now c.loop-table.table le c.loop-table.invariant.passed
