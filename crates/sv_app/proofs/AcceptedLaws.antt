@@ -1,6 +1,7 @@
 -- What is known of the tables of an accepted application.
-use Rattle.std.proofs.Common.{◌≡◌, ◌≢◌, ℕ, zero, suc, ◌<◌, ◌≤◌, ◌&&◌, ◌||◌, Bool, true, false, List, [], ◌∷◌, ◌++◌, length, get_or, Some, slice_get, refl, sym, ap, subst, ◌∙◌, arith}
+use Rattle.std.proofs.Common.{◌≡◌, ◌≢◌, ℕ, ℤ, pos, zero, suc, ◌<◌, ◌≤◌, ◌&&◌, ◌||◌, Bool, true, false, List, [], ◌∷◌, ◌++◌, length, get_or, Some, slice_get, refl, sym, ap, subst, ◌∙◌, arith}
 use Rattle.std.specs.List.{All, flat_map}
+use Rattle.std.proofs.lemmas.List.Elements.{All-nil}
 use Rattle.std.proofs.lemmas.Option.{slice_get_within, get_or_from_slice_get}
 use Rattle.sv_value.specs.declared.spots.Spot.{Spot}
 use Rattle.sv_app.specs.declared.refusals.Code.{Code}
@@ -14,6 +15,7 @@ use Rattle.sv_app.specs.declared.schemas.Ty.TheVariants.{Int, Text, Ints}
 use Rattle.sv_app.specs.Accepted.{AcceptedSchema}
 use Rattle.sv_app.specs.Conditions.{KeepsTable, IsSmallTable}
 use Rattle.sv_app.specs.Lookups.{is_key, table_names, column_names}
+use Rattle.sv_app.specs.Satisfiable.{checks_of, IsMet, IsSatisfiable, AreSatisfiable}
 use Rattle.sv_app.specs.Schema.{Declaration}
 use Rattle.sv_app.specs.Typing.{fault_if, is_text, is_numdelta, has_merge_kind, is_merged_wrong, repeats, key_faults, column_faults, rule_faults, table_faults, faults}
 
@@ -75,3 +77,11 @@ counter_is_int schema accepted number place table column at at_column is =
     (no_fault (is_merged_wrong table column) column.name.spot Typing
     (each_none (λ c. fault_if (is_merged_wrong table c) c.name.spot Typing) table.columns place column
     (back_none (repeats (column_names table)) (flat_map (λ c. fault_if (is_merged_wrong table c) c.name.spot Typing) table.columns) (columns_right schema accepted number table at)) at_column))
+
+-- a table without checks, and one table alone
+pub unchecked : (t : Declaration) → checks_of t ≡ [] → IsSatisfiable t
+unchecked t none = record { values = λ column. pos 0; met = subst (All (IsMet (λ column. pos 0))) (sym none) (All-nil (IsMet (λ column. pos 0))) }
+
+pub one_satisfiable : (t : Declaration) → IsSatisfiable t → AreSatisfiable (t ∷ [])
+one_satisfiable t s zero table at = let same : t ≡ table = cc in subst IsSatisfiable same s
+one_satisfiable t s (suc number) table at = absurd cc

@@ -1,5 +1,5 @@
 -- The table of the tests is accepted, its initial rows and inserts fit, and tables without rows have none.
-use Rattle.std.proofs.Common.{◌≡◌, ◌≢◌, ℕ, ℤ, zero, suc, ◌<◌, true, false, List, [], ◌∷◌, pos, Some, None, slice_get, refl, sym, ap, subst, ◌∙◌, arith}
+use Rattle.std.proofs.Common.{◌≡◌, ◌≢◌, ℕ, ℤ, zero, suc, ◌<◌, ◌-ℤ◌, ◌≤ℤ◌, true, false, List, [], ◌∷◌, pos, Some, None, slice_get, refl, sym, ap, subst, ◌∙◌, arith}
 use Rattle.std.specs.List.{All}
 use Rattle.std.specs.FinMap.{get-empty, empty}
 use Rattle.sv_value.specs.declared.values.Key.{Key}
@@ -23,6 +23,8 @@ use Rattle.sv_effect.specs.Fits.{KeyFits, is_key_column, AreWrites, Ascending, c
 use Rattle.sv_effect.specs.Initial.{ValuesFit, InitFits, AreDistinct}
 use Rattle.sv_effect.specs.RowChange.{key_values}
 use Rattle.sv_effect.specs.TablesOfCut.{init_place}
+use Rattle.sv_app.proofs.AcceptedLaws.{one_satisfiable}
+use Rattle.sv_app.specs.Satisfiable.{IsMet}
 use Rattle.sv_check.specs.Sample.{here, name_of, column_of, sample, IsInitOf, IsInsertOf}
 
 all_none : {A : Type 0} (P : A → Type 0) → All P []
@@ -44,6 +46,7 @@ sample_accepted schema is = subst AcceptedSchema (sym is) (record {
   invariants = (refl, (refl, tt));
   typed = refl;
   acyclic = λ table leads. never_leads table table leads;
+  satisfiable = one_satisfiable sample (record { values = λ column. pos 0; met = all_more (IsMet (λ column. pos 0)) (record { hi = None; lo = Some (name_of 110 1); most = pos 0; spot = here }) [] at_zero (all_none (IsMet (λ column. pos 0))) });
   names = refl;
 })
   where
@@ -52,6 +55,9 @@ sample_accepted schema is = subst AcceptedSchema (sym is) (record {
 
     int : types.Int ≢ types.Ints
     int e = cc
+
+    at_zero : (pos 0 -ℤ pos 0) ≤ℤ pos 0
+    at_zero = omega arith
 
     first : Invariant
     first = record { number = 1; rule = Bound (record { hi = None; lo = Some (name_of 110 1); most = pos 0; spot = here }); spot = here }

@@ -11,6 +11,7 @@ use Rattle.sv_app.specs.Schema.{Invariant, Declaration}
 use Rattle.sv_app.specs.Accepted.{AcceptedSchema}
 use Rattle.sv_app.specs.Conditions.{KeepsRule, KeepsTable, IsSmallRule, IsSmallTable}
 use Rattle.sv_app.specs.References.{refers, Leads, Step, Further}
+use Rattle.sv_app.proofs.AcceptedLaws.{unchecked, one_satisfiable}
 use Rattle.sv_core.proofs.CounterLaws.{Counter}
 
 -- the names of a table, its key, its counter, and of the key once more in `primary key`
@@ -77,6 +78,7 @@ explicit t k c a n = record {
   invariants = tt;
   typed = rw (key_again, counter_key, again_counter) refl;
   acyclic = λ x cycle. no_way t k c a x x cycle;
+  satisfiable = one_satisfiable (table_by t k c a) (unchecked (table_by t k c a) refl);
   names = rw (is_same t.name t.name refl, is_same k.name k.name refl, is_same c.name c.name refl, key_again, key_counter)
       (λ i. table_by
       (record { name = t.name; spot = t.spot; num = sym n.table_number i })

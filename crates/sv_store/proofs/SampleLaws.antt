@@ -31,6 +31,7 @@ use Rattle.sv_effect.specs.TablesOfCut.{init_place}
 use Rattle.sv_effect.specs.RowChange.{written, made, each, key_values}
 use Rattle.sv_effect.specs.Fits.{KeyFits, is_key_column, AreWrites, Ascending, columns_written, is_written, ActFits, FitsSchema, AllFit, OpFits, IsNarrow, CountsFit}
 use Rattle.sv_store.specs.Initial.{ValuesFit, InitFits, AreDistinct}
+use Rattle.sv_app.proofs.AcceptedLaws.{unchecked, one_satisfiable}
 use Rattle.sv_store.specs.Sample.{column_of, sample, key_of, IsInitOf, writes_of, IsOpOf, IsDelta, IsSmall, AreSmall, IsReady, AllowsAll}
 
 all_none : {A : Type 0} (P : A → Type 0) → All P []
@@ -52,6 +53,7 @@ sample_accepted kind schema is = subst AcceptedSchema (sym is) (record {
   invariants = tt;
   typed = refl;
   acyclic = λ table leads. never_leads kind table table leads;
+  satisfiable = one_satisfiable (sample kind) (unchecked (sample kind) refl);
   names = refl;
 })
   where
