@@ -9,3 +9,5 @@ pub mod CommaLaws
 pub mod TurnLaws
 pub mod FitLaws
 pub mod KeptLaws
+pub mod DocumentLaws
+pub mod SuffixLaws

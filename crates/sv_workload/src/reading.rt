@@ -1,17 +1,58 @@
-ghost use Rattle.std.specs.Prelude.{◌≡◌, ◌≤◌, Ok, Err, IfOk, length, drop};
+ghost use Rattle.std.specs.Prelude.{◌≡◌, ◌≤◌, Ok, Err, IfOk, length, drop, max};
 ghost use Rattle.sv_app.specs.declared.refusals.Refusal.{Refusal as IsRefusal};
 ghost use Rattle.sv_app.specs.declared.refusals.Stop.TheVariants.{Refused};
 ghost use Rattle.sv_app.specs.Accepted.{AcceptedApp};
 ghost use Rattle.sv_app.specs.Schema.{schema_of};
 ghost use Rattle.sv_app.specs.Trees.{transactions_of};
 ghost use Rattle.sv_workload.specs.declared.parts.Parts.{Parts as AnyParts};
+ghost use Rattle.sv_workload.specs.declared.parts.Work.TheVariants.{Nothing};
 ghost use Rattle.sv_workload.specs.Documents.{AreParts, IsRefused, IsAnswer};
 
-use crate::parts::Parts;
+use crate::checked::read_init;
+use crate::parts::{Parts, Work};
 use std::alloc::Global;
-use sv_app::{App, Stop};
+use sv_app::{App, InitRow, Stop};
 use sv_lex::Token;
-use sv_value::Spot;
+use sv_value::{List, Spot};
+
+/// How many rows there may be, where there are fewer initial rows and nothing else is set.
+const DEFAULT_ROWS: usize = 1_024;
+
+/// How many changes there may be, where nothing else is set.
+const DEFAULT_CHANGES: u32 = 8_192;
+
+/// Parts with nothing to do.
+fn bare_parts(init: List<InitRow>) -> Parts
+    requires { length init ≤ 4096 }
+    ensures { result ≡ record { init = init; sites = 1; rows = max 1024 (length init); changes = 8192; work = Nothing } }
+{
+    Parts {
+        sites: 1,
+        rows: init.len().max(DEFAULT_ROWS) as u32,
+        changes: DEFAULT_CHANGES,
+        work: Work::Nothing,
+        init,
+    }
+}
+
+/// Reads the parts of a document that are all of these tokens.
+fn read_whole(
+    alloc: Global,
+    app: &App,
+    tokens: &[Token],
+    end: Spot,
+) -> Result<Parts, Stop>
+    requires { AcceptedApp (schema_of app.now.tables.items) (transactions_of app.now.txns.items) }
+    ensures read { IfOk result (λ parts. AreParts (schema_of app.now.tables.items) (transactions_of app.now.txns.items) tokens.now parts) }
+    ensures all { (parts : AnyParts) → AreParts (schema_of app.now.tables.items) (transactions_of app.now.txns.items) tokens.now parts → IsAnswer result parts }
+    ensures refused { (refusal : IsRefusal) → result ≡ Err (Refused refusal) → IsRefused (schema_of app.now.tables.items) (transactions_of app.now.txns.items) tokens.now end refusal }
+{
+    match read_init(alloc, app, tokens, end) {
+        Ok((init, 0)) => Ok(bare_parts(init)),
+        Ok(_) => Err(Stop::NoMemory),
+        Err(stop) => Err(stop),
+    }
+}
 
 /// Reads what stands behind the transactions of a document, from the place `at` on up to its end: the initial rows and
 /// the last part, each of which may be missing. `end` is the place behind the last byte of the document.
@@ -36,5 +77,5 @@ pub fn read_parts(
     // the refusal is the first one
     ensures refused { (refusal : IsRefusal) → result ≡ Err (Refused refusal) → IsRefused (schema_of app.now.tables.items) (transactions_of app.now.txns.items) (drop at tokens.now) end refusal }
 {
-    Err(Stop::NoMemory)
+    read_whole(alloc, app, &tokens[at..], end)
 }
