@@ -19,7 +19,9 @@ use Rattle.sv_workload.specs.Fits.{CallFits, txn_of}
 use Rattle.sv_workload.specs.Grammar.{many, number, IsInteger, argument, call, setting_word, setting, line, session_head, entry, session, replay_head, run_head}
 use Rattle.sv_workload.specs.InitRefused.{BeginsName}
 use Rattle.sv_workload.specs.declared.written.Call.{Call}
-use Rattle.sv_workload.specs.Written.{Setting, Sites, Rows, Changes, Line, Ask, Order, Deliver, Settle, Catch, Show, Cut, Session}
+use Rattle.sv_workload.specs.declared.written.Setting.{Setting}
+use Rattle.sv_workload.specs.declared.written.Setting.TheVariants.{Sites, Rows, Changes}
+use Rattle.sv_workload.specs.Written.{Line, Ask, Order, Deliver, Settle, Catch, Show, Cut, Session}
 
 -- a word stands here, or a number
 abbrev pub BeginsWith : TokenKind → List Token → Type 0

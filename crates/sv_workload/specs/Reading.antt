@@ -1,9 +1,9 @@
 -- Reading the parts of a document from left to right: what some tokens begin with, and the tokens behind it.
-use Rattle.std.specs.Prelude.{ℕ, ℤ, pos, neg_ℤ, Bool, true, false, not, ◌&&◌, ◌==◌, nat_le, length, drop, if◌then◌else◌, List, [], ◌∷◌, ◌++◌, Option, Some, None, Ok, Err, int_le, codes}
+use Rattle.std.specs.Prelude.{ℕ, ℤ, pos, neg_ℤ, Bool, true, false, not, ◌&&◌, ◌==◌, nat_le, nat_lt, nat_abs, ◌||◌, bytes_eq, length, drop, if◌then◌else◌, List, [], ◌∷◌, ◌++◌, Option, Some, None, Ok, Err, int_le, codes}
 use Rattle.std.specs.List.{list_any}
 use Rattle.sv_value.specs.declared.values.Val.{Val}
 use Rattle.sv_value.specs.declared.values.Val.TheVariants as vals
-use Rattle.sv_lex.specs.declared.marks.Mark.TheVariants.{LeftParen, Semi, Minus, Percents}
+use Rattle.sv_lex.specs.declared.marks.Mark.TheVariants.{LeftParen, Semi, Eq, Minus, Percents}
 use Rattle.sv_lex.specs.declared.tokens.Token.{Token}
 use Rattle.sv_lex.specs.declared.tokens.TokenKind.{TokenKind}
 use Rattle.sv_lex.specs.declared.tokens.TokenKind.TheVariants.{Name, Number, Mark}
@@ -18,8 +18,12 @@ use Rattle.sv_app.specs.Lookups.{table_of}
 use Rattle.sv_app.specs.Schema.{Declaration}
 use Rattle.sv_effect.specs.TablesOfCut.{init_place, is_place}
 use Rattle.sv_schema_reader.specs.declared.faults.Fault.{Fault}
-use Rattle.sv_schema_reader.specs.Reading.{Read, ◌>>=◌, is_kind, is_next, given, token_at, kind_at, name_at, name_of, is_name, text_of, is_text, list_at, turns_at}
+use Rattle.sv_schema_reader.specs.Reading.{Read, ◌>>=◌, next, is_some, by_word, is_kind, is_next, given, token_at, kind_at, name_at, name_of, is_name, text_of, is_text, list_at, turns_at}
+use Rattle.sv_workload.specs.declared.written.Given.{Given}
 use Rattle.sv_workload.specs.declared.written.Row.{Row}
+use Rattle.sv_workload.specs.declared.written.Setting.{Setting}
+use Rattle.sv_workload.specs.declared.written.Setting.TheVariants.{Sites, Rows, Changes}
+use Rattle.sv_workload.specs.LastRefused.{least_of, most_of}
 use Rattle.sv_workload.specs.Rows.{init_row}
 
 -- a fault that is known before anything is read comes first
@@ -125,3 +129,67 @@ begins_init _ = false
 -- the initial rows that stand here, if any
 unfoldable pub init_from : List Declaration → List Token → Read (List InitRow)
 init_from schema tokens = if begins_init tokens then rows_from schema [] (drop 2 tokens) else Ok ([], tokens)
+
+-- a number that counts
+abbrev pub count_at : List Token → Read ℕ
+count_at tokens = natural_at tokens >>= λ z r. Ok (nat_abs z, r)
+
+-- the settings by their words
+abbrev pub setting_named : List ℕ → Option Setting
+setting_named word =
+    if bytes_eq word (codes "sites") then Some Sites else if bytes_eq word (codes "rows") then Some Rows
+    else if bytes_eq word (codes "changes") then Some Changes else None
+
+abbrev pub setting_of : Token → Option Setting
+setting_of token = by_word setting_named token.kind
+
+abbrev pub begins_setting : List Token → Bool
+begins_setting tokens = next (λ token. is_some (setting_of token)) tokens
+
+unfoldable pub setting_at : List Token → Read (Setting × ℕ)
+setting_at tokens = token_at setting_of tokens >>= λ which r1. kind_at (Mark Eq) r1 >>= λ _ r2. count_at r2 >>= λ n r3. Ok ((which, n), r3)
+
+-- a number outside these bounds
+abbrev pub is_out : ℕ → ℕ → Option ℤ → Bool
+is_out least most None = false
+is_out least most (Some z) = nat_lt (nat_abs z) least || nat_lt most (nat_abs z)
+
+-- a fault at a number that stands here outside these bounds
+abbrev pub out_mark : Code → ℕ → ℕ → List Token → Option Fault
+out_mark code least most [] = None
+out_mark code least most (token ∷ others) = given (is_out least most (natural_of token.kind)) (record { code = code; left = length (token ∷ others) })
+
+-- what is set before
+abbrev pub given_of : Setting → Given → Option ℕ
+given_of Sites g = g.sites
+given_of Rows g = g.rows
+given_of Changes g = g.changes
+
+abbrev pub with_setting : Given → Setting × ℕ → Given
+with_setting g (Sites, n) = record g { sites = or_else g.sites (Some n) }
+with_setting g (Rows, n) = record g { rows = or_else g.rows (Some n) }
+with_setting g (Changes, n) = record g { changes = or_else g.changes (Some n) }
+
+-- a setting that is given again
+abbrev pub again_mark : Option ℕ → List Token → Option Fault
+again_mark None tokens = None
+again_mark (Some n) tokens = at_front (Some Twice) tokens
+
+-- what is refused of a setting that begins here, besides the grammar
+abbrev pub number_mark : ℕ → Setting → List Token → Option Fault
+number_mark count which (word ∷ mark ∷ others) = if is_kind (Mark Eq) mark.kind then out_mark Many (least_of count which) (most_of which) others else None
+number_mark count which _ = None
+
+abbrev pub marks_by : ℕ → Given → Option Setting → List Token → Option Fault
+marks_by count g None tokens = None
+marks_by count g (Some which) tokens = or_else (again_mark (given_of which g) tokens) (number_mark count which tokens)
+
+abbrev pub setting_mark : ℕ → Given → List Token → Option Fault
+setting_mark count g [] = None
+setting_mark count g (token ∷ others) = marks_by count g (setting_of token) (token ∷ others)
+
+unfoldable pub setting_from : ℕ → Given → List Token → Read (Setting × ℕ)
+setting_from count g tokens = settled (setting_mark count g tokens) (setting_at tokens)
+
+abbrev pub settings_from : ℕ → Given → List Token → Read Given
+settings_from count = turns_at begins_setting (λ g tokens. setting_from count g tokens >>= λ s r. Ok (with_setting g s, r)) (λ g tokens. Ok (g, tokens))

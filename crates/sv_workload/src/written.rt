@@ -1,6 +1,25 @@
 use sv_app::{Arg, Ident};
 use sv_value::{List, Val};
 
+/// What may be set for the last part.
+#[derive(Clone, Copy, Debug, PartialEq, Eq)]
+pub enum Setting {
+    /// The number of sites.
+    Sites,
+    /// How many rows there may be.
+    Rows,
+    /// How many changes there may be.
+    Changes,
+}
+
+/// What is set for the last part.
+#[derive(Clone, Copy, Debug)]
+pub struct Given {
+    pub sites: Option<u64>,
+    pub rows: Option<u64>,
+    pub changes: Option<u64>,
+}
+
 /// A row as it is written: the name of its table, and its values.
 #[derive(Debug, Drop)]
 pub struct Row {
