@@ -11,3 +11,4 @@ pub mod FitLaws
 pub mod KeptLaws
 pub mod DocumentLaws
 pub mod SuffixLaws
+pub mod SettingLaws
