@@ -19,12 +19,14 @@ use Rattle.sv_schema_reader.specs.Reading.{Read, IsLeft}
 use Rattle.sv_schema_reader.specs.Refused.{spot_of}
 use Rattle.sv_workload.specs.declared.parts.Parts.{Parts}
 use Rattle.sv_workload.specs.declared.parts.Work.TheVariants as works
+use Rattle.sv_workload.specs.declared.written.PartHead.{PartHead}
+use Rattle.sv_workload.specs.declared.written.PartHead.TheVariants.{Replay as ReplayHead, Run as RunHead}
 use Rattle.sv_workload.specs.declared.written.Row.{Row}
 use Rattle.sv_workload.specs.Documents.{parts_of, AreRows, AreGood, AreParts, IsAnswer, IsRefused, InInit, ByInvariant}
 use Rattle.sv_workload.specs.Elements.{IsFirst, AreNone}
 use Rattle.sv_workload.specs.Grammar.{last_part, replay_head, run_head}
 use Rattle.sv_workload.specs.InitRefused.{InitRefused, AreInit, NoInit, Init}
-use Rattle.sv_workload.specs.LastRefused.{LastRefused, NoPart, InSettings, NoSites, InLines, InSessions, PartHead, ReplayHead, RunHead, part_head}
+use Rattle.sv_workload.specs.LastRefused.{LastRefused, NoPart, InSettings, NoSites, InLines, InSessions, part_head}
 use Rattle.sv_workload.specs.Reading.{init_from}
 use Rattle.sv_workload.specs.Rows.{init_row}
 use Rattle.sv_workload.specs.Stops.{refusal_of, IsBad, InitStops, ByFault, ByRow, InitKept}

@@ -12,3 +12,4 @@ pub mod KeptLaws
 pub mod DocumentLaws
 pub mod SuffixLaws
 pub mod SettingLaws
+pub mod FrontLaws

@@ -9,7 +9,7 @@ use Rattle.sv_lex.specs.declared.tokens.TokenKind.{TokenKind}
 use Rattle.sv_lex.specs.declared.tokens.TokenKind.TheVariants.{Name, Number, Mark}
 use Rattle.sv_app.specs.declared.apps.Ident.{Ident}
 use Rattle.sv_app.specs.declared.refusals.Code.{Code}
-use Rattle.sv_app.specs.declared.refusals.Code.TheVariants.{Unknown, Twice, Typing, Many}
+use Rattle.sv_app.specs.declared.refusals.Code.TheVariants.{Syntax, Unknown, Twice, Typing, Many}
 use Rattle.sv_app.specs.declared.requests.InitRow.{InitRow}
 use Rattle.sv_app.specs.declared.schemas.Column.{Column}
 use Rattle.sv_app.specs.declared.schemas.Ty.{Ty}
@@ -18,8 +18,10 @@ use Rattle.sv_app.specs.Lookups.{table_of}
 use Rattle.sv_app.specs.Schema.{Declaration}
 use Rattle.sv_effect.specs.TablesOfCut.{init_place, is_place}
 use Rattle.sv_schema_reader.specs.declared.faults.Fault.{Fault}
-use Rattle.sv_schema_reader.specs.Reading.{Read, ◌>>=◌, next, is_some, by_word, is_kind, is_next, given, token_at, kind_at, name_at, name_of, is_name, text_of, is_text, list_at, turns_at}
+use Rattle.sv_schema_reader.specs.Reading.{Read, ◌>>=◌, refuse, next, is_some, by_word, is_kind, is_next, given, token_at, kind_at, name_at, name_of, is_name, text_of, is_text, list_at, turns_at}
 use Rattle.sv_workload.specs.declared.written.Given.{Given}
+use Rattle.sv_workload.specs.declared.written.PartHead.{PartHead}
+use Rattle.sv_workload.specs.declared.written.PartHead.TheVariants.{Replay as ReplayHead, Run as RunHead}
 use Rattle.sv_workload.specs.declared.written.Row.{Row}
 use Rattle.sv_workload.specs.declared.written.Setting.{Setting}
 use Rattle.sv_workload.specs.declared.written.Setting.TheVariants.{Sites, Rows, Changes}
@@ -193,3 +195,26 @@ setting_from count g tokens = settled (setting_mark count g tokens) (setting_at 
 
 abbrev pub settings_from : ℕ → Given → List Token → Read Given
 settings_from count = turns_at begins_setting (λ g tokens. setting_from count g tokens >>= λ s r. Ok (with_setting g s, r)) (λ g tokens. Ok (g, tokens))
+
+-- the last parts by their words
+abbrev pub part_named : List ℕ → Option PartHead
+part_named word = if bytes_eq word (codes "replay") then Some ReplayHead else if bytes_eq word (codes "run") then Some RunHead else None
+
+abbrev pub part_of : Token → Option PartHead
+part_of token = by_word part_named token.kind
+
+unfoldable pub head_at : List Token → Read PartHead
+head_at tokens = kind_at (Mark Percents) tokens >>= λ _ r1. token_at part_of r1 >>= λ head r2. Ok (head, r2)
+
+-- nothing is set
+abbrev pub unset : Given
+unset = record { sites = None; rows = None; changes = None }
+
+-- the number of sites must be set
+abbrev pub with_sites : PartHead → Given → Option ℕ → List Token → Read (PartHead × Given)
+with_sites head g None tokens = refuse Syntax tokens
+with_sites head g (Some n) tokens = Ok ((head, g), tokens)
+
+-- the head of a last part and its settings
+unfoldable pub front_from : ℕ → List Token → Read (PartHead × Given)
+front_from count tokens = head_at tokens >>= λ head r1. settings_from count unset r1 >>= λ g r2. with_sites head g g.sites r2

@@ -11,4 +11,4 @@ mod written;
 
 pub use parts::{Parts, Step, Work};
 pub use reading::read_parts;
-pub use written::{Call, Given, Row, Setting};
+pub use written::{Call, Given, PartHead, Row, Setting};

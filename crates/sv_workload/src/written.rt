@@ -1,6 +1,13 @@
 use sv_app::{Arg, Ident};
 use sv_value::{List, Val};
 
+/// What the last part begins with.
+#[derive(Clone, Copy, Debug, PartialEq, Eq)]
+pub enum PartHead {
+    Replay,
+    Run,
+}
+
 /// What may be set for the last part.
 #[derive(Clone, Copy, Debug, PartialEq, Eq)]
 pub enum Setting {
