@@ -152,7 +152,7 @@ module _ (count : ℕ) (tokens : List Token) where
   no_setting : (rest : List Token) → begins_setting rest ≡ false → BeginsSetting rest → ⊥
   no_setting rest t is = contra (set_begins is.which rest is.is) t
 
-  setting_none : (rest : List Token) → (BeginsSetting rest → ⊥) → begins_setting rest ≡ false
+  pub setting_none : (rest : List Token) → (BeginsSetting rest → ⊥) → begins_setting rest ≡ false
   setting_none rest none = by_test (begins_setting rest) refl
     where
       by_test : (b : Bool) → begins_setting rest ≡ b → b ≡ false

@@ -13,3 +13,4 @@ pub mod DocumentLaws
 pub mod SuffixLaws
 pub mod SettingLaws
 pub mod FrontLaws
+pub mod LastLaws
