@@ -1,5 +1,6 @@
 -- The parts of a document by what was read of them.
 use Rattle.std.proofs.Common.{◌≡◌, ◌≢◌, ◌∙◌, ℕ, ◌≤◌, ◌-◌, max, List, [], ◌∷◌, ◌++◌, length, drop, map, Some, slice_get, Ok, Err, refl, sym, ap, subst, append_assoc, arith}
+use Rattle.std.specs.Prelude.{Result, IfOk}
 use Rattle.std.proofs.lemmas.List.{length-append, length-map}
 use Rattle.sv_value.specs.declared.spots.Spot.{Spot}
 use Rattle.sv_lex.specs.declared.tokens.Token.{Token}
@@ -52,6 +53,19 @@ none_left (x ∷ l) e = absurd cc
 pub no_answer : (stop : Stop) (parts : Parts) → ((refusal : Refusal) → stop ≡ Refused refusal → ⊥) → IsAnswer (Err stop) parts
 no_answer (Refused refusal) parts none = none refusal refl
 no_answer NoMemory parts none = tt
+
+pub ok_map : {A : Type 0} {P Q : A → Type 0} (result : Result A Stop) → ((a : A) → P a → Q a) → IfOk result P → IfOk result Q
+ok_map (Ok a) map is = map a is
+ok_map (Err stop) map is = tt
+
+pub ok_at : {A : Type 0} (P : A → Type 0) (result : Result A Stop) (a : A) → IfOk result P → result ≡ Ok a → P a
+ok_at {A} P (Ok b) a is e = let same : b ≡ a = cc in subst P same is
+ok_at P (Err stop) a is e = absurd cc
+
+pub last_answer : (result : Result Parts Stop) (parts : Parts) → ((found : Parts) → result ≡ Ok found → found ≡ parts) → ((refusal : Refusal) → result ≡ Err (Refused refusal) → ⊥) → IsAnswer result parts
+last_answer (Ok found) parts same none = same found refl
+last_answer (Err (Refused refusal)) parts same none = none refusal refl
+last_answer (Err NoMemory) parts same none = tt
 
 part_some : (head : PartHead) → part_head head [] → ⊥
 part_some ReplayHead is = let bad : is.first.token ∷ is.back ≡ [] = sym (is.whole ∙ ap (λ l. l ++ is.back) is.first.only) in absurd cc

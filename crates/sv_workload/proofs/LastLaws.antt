@@ -108,19 +108,19 @@ line_unset (Cut n) front rest is = word_unset (codes "cut") _ front rest is
 session_unset : (s : Session) (front rest : List Token) → session s front → begins_setting (front ++ rest) ≡ false
 session_unset s front rest is = ap (λ l. begins_setting (l ++ rest)) is.whole ∙ ap begins_setting (append_assoc is.front is.back rest) ∙ word_unset (codes "session") _ is.front (is.back ++ rest) is.first
 
-lines_unset : (ls : List Line) (l : List Token) → many line ls l → begins_setting l ≡ false
+pub lines_unset : (ls : List Line) (l : List Token) → many line ls l → begins_setting l ≡ false
 lines_unset [] l is = ap begins_setting is
 lines_unset (x ∷ ls) l is = ap begins_setting is.whole ∙ line_unset x is.front is.back is.first
 
-sessions_unset : (ss : List Session) (l : List Token) → many session ss l → begins_setting l ≡ false
+pub sessions_unset : (ss : List Session) (l : List Token) → many session ss l → begins_setting l ≡ false
 sessions_unset [] l is = ap begins_setting is
 sessions_unset (x ∷ ss) l is = ap begins_setting is.whole ∙ session_unset x is.front is.back is.first
 
-lines_empty : (ls : List Line) (l : List Token) → l ≡ [] → many line ls l → ls ≡ []
+pub lines_empty : (ls : List Line) (l : List Token) → l ≡ [] → many line ls l → ls ≡ []
 lines_empty [] l e is = refl
 lines_empty (x ∷ ls) l e is = absurd (line_some x (subst (λ y. line x y) (front_empty is.front is.back (sym e ∙ is.whole)) is.first))
 
-sessions_empty : (ss : List Session) (l : List Token) → l ≡ [] → many session ss l → ss ≡ []
+pub sessions_empty : (ss : List Session) (l : List Token) → l ≡ [] → many session ss l → ss ≡ []
 sessions_empty [] l e is = refl
 sessions_empty (x ∷ ss) l e is = absurd (session_some x (subst (λ y. session x y) (front_empty is.front is.back (sym e ∙ is.whole)) is.first))
 
@@ -153,7 +153,7 @@ module _ (schema : List Declaration) (txns : List Transaction) (count : ℕ) (to
     count_is = refl;
   }
 
-  sited : (head : PartHead) (settings : List (Setting × ℕ)) (rest : List Token) (n : ℕ) → Through head settings rest → last.given Sites settings ≡ Some n → FrontIs count tokens (head, state settings) rest
+  pub sited : (head : PartHead) (settings : List (Setting × ℕ)) (rest : List Token) (n : ℕ) → Through head settings rest → last.given Sites settings ≡ Some n → FrontIs count tokens (head, state settings) rest
   sited head settings rest n t e = record {
     head = head;
     middle = t.middle;

@@ -14,3 +14,9 @@ pub mod SuffixLaws
 pub mod SettingLaws
 pub mod FrontLaws
 pub mod LastLaws
+pub mod CallLaws
+pub mod ManyLaws
+pub mod FrontDocumentLaws
+pub mod LineLaws
+pub mod LongLaws
+pub mod CallMarkLaws

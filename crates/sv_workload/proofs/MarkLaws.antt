@@ -372,3 +372,20 @@ marks_map {A} {P} {tokens} {m} {n} {mark} into out marks = record {
   };
   within = λ code here is. marks.within code here (out code here is);
 }
+
+-- the marks of a part are those of a whole that begins with some tokens and the part
+pub lift_marks : {A B : Type 0} {P : A → List Token → Type 0} {Q : B → List Token → Type 0} {m : Refusals} {mark : Option Fault} (before tokens : List Token)
+    → ((l : List Token) → Begins P l → Begins Q (before ++ l)) → Marks P tokens m mark → Marks Q (before ++ tokens) m mark
+lift_marks {A} {B} {P} {Q} {m} {mark} before tokens lift marks = record {
+  none = marks.none;
+  some = λ fault e. let f = marks.some fault e in record {
+    pre = before ++ f.pre;
+    token = f.token;
+    others = f.others;
+    whole = ap (λ l. before ++ l) f.whole ∙ sym (append_assoc before f.pre (f.token ∷ f.others));
+    begins = subst (λ l. Begins Q l) (sym (append_assoc before f.pre (f.token ∷ []))) (lift (f.pre ++ f.token ∷ []) f.begins);
+    place = f.place;
+    first = f.first;
+  };
+  within = λ code here is. let le = marks.within code here is in omega (arith, le, length-append before tokens);
+}

@@ -1,5 +1,6 @@
 -- Settings: the loop that reads them judges them.
 use Rattle.std.proofs.Common.{◌≡◌, ◌≢◌, ◌∙◌, ℕ, ℤ, pos, nat_abs, zero, suc, ◌<◌, ◌≤◌, ◌⊎◌, inl, inr, nat_lt, Bool, true, false, ◌||◌, if◌then◌else◌, cond, bytes_eq, List, [], ◌∷◌, ◌++◌, length, Option, Some, None, Ok, Err, refl, sym, ap, subst, append_assoc, append-nil, arith, codes}
+use Rattle.std.specs.Prelude.{Result, IfOk}
 use Rattle.std.proofs.lemmas.Bool.Decides.{nat_tests}
 use Rattle.std.proofs.lemmas.List.{length-append}
 use Rattle.std.proofs.lemmas.Slice.Eq.{bytes_eq-Decides}
@@ -11,11 +12,12 @@ use Rattle.sv_app.specs.declared.refusals.Code.{Code}
 use Rattle.sv_app.specs.declared.refusals.Code.TheVariants as codes_of
 use Rattle.sv_app.specs.Codes.{number_of}
 use Rattle.sv_schema_reader.specs.declared.faults.Fault.{Fault}
+use Rattle.sv_schema_reader.specs.declared.faults.Halt.{Halt}
 use Rattle.sv_schema_reader.specs.Grammar.{Both, ◌·◌, kind, word, mark}
-use Rattle.sv_schema_reader.specs.Reading.{Read, ◌>>=◌, is_kind, is_some, by_word, given, token_at}
+use Rattle.sv_schema_reader.specs.Reading.{Read, Reads, ◌>>=◌, is_kind, is_some, by_word, given, token_at}
 use Rattle.sv_schema_reader.proofs.KindLaws.{token_of, kind_is, kind_same}
 use Rattle.sv_schema_reader.proofs.MadeLaws.{Made, take_last, take_plain, skip_plain}
-use Rattle.sv_schema_reader.proofs.ReadLaws.{Plain, anything, Means, leaf, same_plain, same_read}
+use Rattle.sv_schema_reader.proofs.ReadLaws.{Took, Plain, anything, Means, leaf, same_plain, same_read}
 use Rattle.sv_workload.specs.declared.written.Given.{Given}
 use Rattle.sv_workload.specs.declared.written.Setting.{Setting}
 use Rattle.sv_workload.specs.declared.written.Setting.TheVariants.{Sites, Rows, Changes}
@@ -23,7 +25,7 @@ use Rattle.sv_workload.specs.Elements.{Refusals, Begins, IsMisplaced, Among, Are
 use Rattle.sv_workload.specs.Grammar.{number, setting_word, setting}
 use Rattle.sv_workload.specs.LastRefused.{BeginsWith, IsOutside, Sets, BeginsSetting, least_of, most_of, SettingRefused, Misplaced as SettingMisplaced, Repeated, Outside}
 use Rattle.sv_workload.specs.LastRefused as last
-use Rattle.sv_workload.specs.Reading.{natural_of, natural_at, count_at, setting_named, setting_of, begins_setting, setting_at, is_out, out_mark, given_of, with_setting, again_mark, number_mark, marks_by, setting_mark, setting_from, settled, or_else}
+use Rattle.sv_workload.specs.Reading.{natural_of, natural_at, count_at, setting_named, setting_of, begins_setting, setting_at, is_out, out_mark, given_of, with_setting, again_mark, number_mark, marks_by, setting_mark, setting_from, settled, or_else, unset, IsBounded}
 use Rattle.sv_workload.proofs.JudgeLaws.{Judged, judged_map}
 use Rattle.sv_workload.proofs.LoopLaws.{Element, Steps}
 use Rattle.sv_workload.proofs.MarkLaws.{Marks, At, Before, no_marks, place_marks, marks_or, marks_map, Standing, Mark as OfMark, Misplaced, judged_marked}
@@ -375,3 +377,88 @@ module _ (count : ℕ) where
 
   pub setting_steps : Steps begins_setting (setting_from count) with_setting state setting (SettingRefused count)
   setting_steps = record { judges = setting_judged; shrinks = setting_shrinks; some = setting_some; opens = setting_opens; stops = setting_stops; adds = state_push }
+
+-- what was set keeps its bounds
+
+none_settled : {A : Type 0} (mark : Option Fault) (read : Read A) (a : A) (rest : List Token) → settled mark read ≡ Ok (a, rest) → (mark ≡ None) × (read ≡ Ok (a, rest))
+none_settled None read a rest e = (refl, e)
+none_settled (Some fault) read a rest e = absurd cc
+
+second_none : {A : Type 0} (a b : Option A) → or_else a b ≡ None → b ≡ None
+second_none None b e = e
+second_none (Some a) b e = absurd cc
+
+given_false : {A : Type 0} (b : Bool) (a : A) → given b a ≡ None → b ≡ false
+given_false true a e = absurd cc
+given_false false a e = refl
+
+abbrev late_fault : List Token → Fault
+late_fault tokens = record { code = codes_of.Many; left = length tokens }
+
+pub setting_bounded : (count : ℕ) (g : Given) (tokens : List Token) (s : Setting × ℕ) (rest : List Token) → setting_from count g tokens ≡ Ok (s, rest) → s.1 ≤ most_of s.0
+unfolding setting_from
+setting_bounded count g tokens s rest e = by_read (none_settled (setting_mark count g tokens) (setting_at tokens) s rest e)
+  where
+    by_read : (setting_mark count g tokens ≡ None) × (setting_at tokens ≡ Ok (s, rest)) → s.1 ≤ most_of s.0
+    by_read read = by_parts took.is
+      where
+        took : Took setting setting_at tokens s rest
+        took = setting_law.took tokens s rest read.1
+
+        by_parts : setting s took.front → s.1 ≤ most_of s.0
+        by_parts is = by_out (is_out (least_of count s.0) (most_of s.0) (natural_of found.kind)) refl
+          where
+            first : Token
+            first = is.first.token
+
+            sign : Token
+            sign = is.then.first.token
+
+            found : Token
+            found = is.then.then.token
+
+            whole : tokens ≡ first ∷ sign ∷ found ∷ rest
+            whole = took.whole ∙ ap (λ l. l ++ rest) (is.whole ∙ ap (λ l. l ++ is.back) is.first.only ∙ ap (λ l. first ∷ l) (is.then.whole ∙ ap (λ l. l ++ is.then.back) is.then.first.only ∙ ap (λ l. sign ∷ l) is.then.then.only))
+
+            mark_none : marks_by count g (Some s.0) (first ∷ sign ∷ found ∷ rest) ≡ None
+            mark_none = ap (λ (w : Option Setting). marks_by count g w (first ∷ sign ∷ found ∷ rest)) (sym (set_by first s.0 is.first.holds)) ∙ sym (ap (setting_mark count g) whole) ∙ read.0
+
+            number_none : number_mark count s.0 (first ∷ sign ∷ found ∷ rest) ≡ None
+            number_none = second_none (again_mark (given_of s.0 g) (first ∷ sign ∷ found ∷ rest)) (number_mark count s.0 (first ∷ sign ∷ found ∷ rest)) mark_none
+
+            out_none : given (is_out (least_of count s.0) (most_of s.0) (natural_of found.kind)) (late_fault (found ∷ rest)) ≡ None
+            out_none = ap (λ b. if b then out_mark codes_of.Many (least_of count s.0) (most_of s.0) (found ∷ rest) else None) (sym (ap (is_kind (Mark Eq)) is.then.first.holds ∙ kind_same (Mark Eq))) ∙ number_none
+
+            natural : natural_of found.kind ≡ Some (pos s.1)
+            natural = ap natural_of is.then.then.holds ∙ natural_there s.1
+
+            second_false : (a b : Bool) → a || b ≡ false → b ≡ false
+            second_false true b e = absurd cc
+            second_false false b e = e
+
+            by_out : (b : Bool) → is_out (least_of count s.0) (most_of s.0) (natural_of found.kind) ≡ b → s.1 ≤ most_of s.0
+            by_out true o = absurd (contra o (given_false (is_out (least_of count s.0) (most_of s.0) (natural_of found.kind)) (late_fault (found ∷ rest)) out_none))
+            by_out false o =
+                let both : nat_lt s.1 (least_of count s.0) || nat_lt (most_of s.0) s.1 ≡ false = ap (is_out (least_of count s.0) (most_of s.0)) (sym natural) ∙ o in
+                let high = second_false (nat_lt s.1 (least_of count s.0)) (nat_lt (most_of s.0) s.1) both in
+                grind (arith, nat_tests, high)
+
+or_bounded : (most n m : ℕ) (a : Option ℕ) → ((k : ℕ) → a ≡ Some k → k ≤ most) → n ≤ most → or_else a (Some n) ≡ Some m → m ≤ most
+or_bounded most n m None old new e = let same : n ≡ m = cc in omega (arith, same, new)
+or_bounded most n m (Some k) old new e = old m e
+
+pub bounded_with : (g : Given) (which : Setting) (n : ℕ) → IsBounded g → n ≤ most_of which → IsBounded (with_setting g (which, n))
+bounded_with g Sites n is le = record { sites = λ m e. or_bounded 8 n m g.sites is.sites le e; rows = is.rows; changes = is.changes }
+bounded_with g Rows n is le = record { sites = is.sites; rows = λ m e. or_bounded 4096 n m g.rows is.rows le e; changes = is.changes }
+bounded_with g Changes n is le = record { sites = is.sites; rows = is.rows; changes = λ m e. or_bounded 65536 n m g.changes is.changes le e }
+
+pub unset_bounded : IsBounded unset
+unset_bounded = record { sites = λ n e. absurd cc; rows = λ n e. absurd cc; changes = λ n e. absurd cc }
+
+pub ruleset bounds = (setting_bounded, bounded_with, unset_bounded)
+
+pub bounded_read : (count : ℕ) (g : Given) (tokens : List Token) (result : Result (Setting × ℕ) Halt) (rest : List Token) → setting_mark count g tokens ≡ None → Reads (λ s. s) result rest (setting_at tokens)
+    → IfOk result (λ s. s.1 ≤ most_of s.0)
+unfolding setting_from
+bounded_read count g all (Ok s) rest none read = setting_bounded count g all s rest (ap (λ (m : Option Fault). settled m (setting_at all)) none ∙ read)
+bounded_read count g all (Err halt) rest none read = tt

@@ -8,6 +8,25 @@ pub enum PartHead {
     Run,
 }
 
+/// What a step begins with.
+#[derive(Clone, Copy, Debug, PartialEq, Eq)]
+pub enum Verb {
+    Ask,
+    Order,
+    Deliver,
+    Settle,
+    Catch,
+    Show,
+    Cut,
+}
+
+/// What a packet begins with.
+#[derive(Clone, Copy, Debug, PartialEq, Eq)]
+pub enum Color {
+    Blue,
+    Red,
+}
+
 /// What may be set for the last part.
 #[derive(Clone, Copy, Debug, PartialEq, Eq)]
 pub enum Setting {
