@@ -11,5 +11,4 @@ mod values;
 mod written;
 
 pub use parts::{Parts, Step, Work};
-pub use reading::read_parts;
 pub use written::{Call, Color, Given, PartHead, Row, Setting, Verb};

@@ -81,7 +81,8 @@ fn behind(tokens: &[Token], left: usize) -> &[Token]
     &tokens[tokens.len().saturating_sub(left)..]
 }
 
-/// Reads a last part without steps and sessions, behind these initial rows.
+/// Reads a last part without steps and sessions, behind these initial rows. Steps and sessions aren't read yet: they are
+/// answered as want of memory.
 fn read_last(
     alloc: Global,
     init: List<InitRow>,
@@ -136,7 +137,7 @@ fn read_whole(
 ///
 /// `Refused` with the first refusal of the initial rows; where there is none, with the first row that breaks an
 /// invariant; and where there is none either, with the first refusal of the last part.
-pub fn read_parts(
+pub(crate) fn read_parts(
     alloc: Global,
     app: &App,
     tokens: &[Token],
