@@ -9,3 +9,14 @@ pub mod CommaLaws
 pub mod TurnLaws
 pub mod FitLaws
 pub mod KeptLaws
+pub mod DocumentLaws
+pub mod SuffixLaws
+pub mod SettingLaws
+pub mod FrontLaws
+pub mod LastLaws
+pub mod CallLaws
+pub mod ManyLaws
+pub mod FrontDocumentLaws
+pub mod LineLaws
+pub mod LongLaws
+pub mod CallMarkLaws

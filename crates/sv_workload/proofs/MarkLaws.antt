@@ -1,15 +1,15 @@
 -- Elements in which something may be refused that is no matter of the grammar: the first such place is known before the element is read.
-use Rattle.std.proofs.Common.{◌≡◌, ◌∙◌, ℕ, zero, suc, ◌<◌, ◌≤◌, ◌⊎◌, inl, inr, List, [], ◌∷◌, ◌++◌, length, Option, Some, None, Ok, Err, refl, sym, ap, subst, append_assoc, append-nil, arith}
+use Rattle.std.proofs.Common.{◌≡◌, ◌∙◌, ℕ, zero, suc, ◌<◌, ◌≤◌, ◌⊎◌, inl, inr, Bool, true, false, List, [], ◌∷◌, ◌++◌, length, Option, Some, None, Ok, Err, refl, sym, ap, subst, append_assoc, append-nil, arith}
 use Rattle.std.proofs.lemmas.List.{length-append}
 use Rattle.sv_lex.specs.declared.tokens.Token.{Token}
 use Rattle.sv_app.specs.declared.refusals.Code.{Code}
 use Rattle.sv_app.specs.declared.refusals.Code.TheVariants.{Syntax}
 use Rattle.sv_app.specs.Codes.{number_of}
 use Rattle.sv_schema_reader.specs.declared.faults.Fault.{Fault}
-use Rattle.sv_schema_reader.specs.Reading.{Read}
+use Rattle.sv_schema_reader.specs.Reading.{Read, given}
 use Rattle.sv_schema_reader.proofs.ReadLaws.{Plain, Took, anything, same_read}
 use Rattle.sv_workload.specs.Elements.{Refusals, Begins, IsMisplaced, IsFirst, AreNone}
-use Rattle.sv_workload.specs.Reading.{settled}
+use Rattle.sv_workload.specs.Reading.{settled, or_else}
 use Rattle.sv_workload.proofs.ElementLaws.{Missing, missing}
 use Rattle.sv_workload.proofs.JudgeLaws.{Alike, Found, Judged}
 use Rattle.sv_workload.proofs.LoopLaws.{Element}
@@ -262,3 +262,130 @@ module _ {A : Type 0} {P : A → List Token → Type 0} {read : List Token → R
               by_other : (code : Code) (there : List Token) → Standing tokens marked code there → (length there < length (m.token ∷ m.others)) ⊎ ((length there ≡ length (m.token ∷ m.others)) × (number_of f.code ≤ number_of code))
               by_other code there (Mark is) = m.first.first code there is
               by_other code there (Misplaced s is) = inl (misplaced_past tokens m.pre m.token m.others there m.whole m.begins is)
+
+-- a refusal at one place, if a condition holds
+abbrev pub At : Code → List Token → Type 0 → Refusals
+At wanted place Holds code here = (code ≡ wanted) × (here ≡ place) × Holds
+
+pub no_marks : {A : Type 0} (P : A → List Token → Type 0) (tokens : List Token) → Marks P tokens (λ code here. ⊥) None
+no_marks P tokens = record { none = λ e code here is. is; some = λ fault e. absurd cc; within = λ code here is. absurd is }
+
+pub place_marks : {A : Type 0} (P : A → List Token → Type 0) (tokens pre : List Token) (token : Token) (others : List Token) (wanted : Code) (Holds : Type 0) (test : Bool)
+    → tokens ≡ pre ++ token ∷ others → Begins P (pre ++ token ∷ []) → (test ≡ true → Holds) → (Holds → test ≡ true)
+    → Marks P tokens (At wanted (token ∷ others) Holds) (given test (record { code = wanted; left = length (token ∷ others) }))
+place_marks P tokens pre token others wanted Holds true whole begins into out = record {
+  none = λ e. absurd cc;
+  some = λ fault e. let same : record { code = wanted; left = length (token ∷ others) } ≡ fault = cc in
+      subst (λ f. FirstMark P tokens (At wanted (token ∷ others) Holds) f) same (record {
+        pre = pre;
+        token = token;
+        others = others;
+        whole = whole;
+        begins = begins;
+        place = refl;
+        first = record { is = (refl, refl, into refl); first = λ other there is. inr (ap length is.1, subst (λ c. number_of wanted ≤ number_of c) (sym is.0) (omega arith)) };
+      });
+  within = λ code here is. omega (arith, ap length is.1, ap length whole, length-append pre (token ∷ others));
+}
+place_marks P tokens pre token others wanted Holds false whole begins into out = record {
+  none = λ e code here is. let bad : false ≡ true = out is.2 in absurd cc;
+  some = λ fault e. absurd cc;
+  within = λ code here is. omega (arith, ap length is.1, ap length whole, length-append pre (token ∷ others));
+}
+
+-- marks of which those of the first kind come before the others
+
+abbrev pub Before : Fault → Code → List Token → Type 0
+Before fault code here = (length here < fault.left) ⊎ ((length here ≡ fault.left) × (number_of fault.code ≤ number_of code))
+
+pub marks_or : {A : Type 0} {P : A → List Token → Type 0} {tokens : List Token} {m n : Refusals} {first second : Option Fault} → Marks P tokens m first → Marks P tokens n second
+    → ((fault : Fault) → first ≡ Some fault → (code : Code) (here : List Token) → n code here → Before fault code here) → Marks P tokens (λ code here. m code here ⊎ n code here) (or_else first second)
+marks_or {A} {P} {tokens} {m} {n} {first} {second} a b order = by_first first refl a order
+  where
+    within : Marks P tokens m first → (code : Code) (here : List Token) → m code here ⊎ n code here → length here ≤ length tokens
+    within a code here (inl is) = a.within code here is
+    within a code here (inr is) = b.within code here is
+
+    by_first : (f : Option Fault) → first ≡ f → Marks P tokens m f → ((fault : Fault) → f ≡ Some fault → (code : Code) (here : List Token) → n code here → Before fault code here)
+        → Marks P tokens (λ code here. m code here ⊎ n code here) (or_else f second)
+    by_first None e c order = record {
+      none = λ s code here is. no_case s code here is;
+      some = λ fault s. by_second fault (b.some fault s);
+      within = within a;
+    }
+      where
+        no_case : second ≡ None → (code : Code) (here : List Token) → m code here ⊎ n code here → ⊥
+        no_case s code here (inl is) = c.none refl code here is
+        no_case s code here (inr is) = b.none s code here is
+
+        by_second : (fault : Fault) → FirstMark P tokens n fault → FirstMark P tokens (λ code here. m code here ⊎ n code here) fault
+        by_second fault f = record {
+          pre = f.pre;
+          token = f.token;
+          others = f.others;
+          whole = f.whole;
+          begins = f.begins;
+          place = f.place;
+          first = record { is = inr f.first.is; first = λ other there is. by_other other there is };
+        }
+          where
+            by_other : (other : Code) (there : List Token) → m other there ⊎ n other there → (length there < length (f.token ∷ f.others)) ⊎ ((length there ≡ length (f.token ∷ f.others)) × (number_of fault.code ≤ number_of other))
+            by_other other there (inl is) = absurd (c.none refl other there is)
+            by_other other there (inr is) = f.first.first other there is
+    by_first (Some g) e c order = record {
+      none = λ s. absurd cc;
+      some = λ fault s. let same : g ≡ fault = cc in subst (λ x. FirstMark P tokens (λ code here. m code here ⊎ n code here) x) same (by_mark (c.some g refl));
+      within = within a;
+    }
+      where
+        by_mark : FirstMark P tokens m g → FirstMark P tokens (λ code here. m code here ⊎ n code here) g
+        by_mark f = record {
+          pre = f.pre;
+          token = f.token;
+          others = f.others;
+          whole = f.whole;
+          begins = f.begins;
+          place = f.place;
+          first = record { is = inl f.first.is; first = λ other there is. by_other other there is };
+        }
+          where
+            placed : (other : Code) (there : List Token) → Before g other there → (length there < length (f.token ∷ f.others)) ⊎ ((length there ≡ length (f.token ∷ f.others)) × (number_of g.code ≤ number_of other))
+            placed other there (inl lt) = inl (omega (arith, lt, f.place))
+            placed other there (inr same) = inr (same.0 ∙ f.place, same.1)
+
+            by_other : (other : Code) (there : List Token) → m other there ⊎ n other there → (length there < length (f.token ∷ f.others)) ⊎ ((length there ≡ length (f.token ∷ f.others)) × (number_of g.code ≤ number_of other))
+            by_other other there (inl is) = f.first.first other there is
+            by_other other there (inr is) = placed other there (order g refl other there is)
+
+pub marks_map : {A : Type 0} {P : A → List Token → Type 0} {tokens : List Token} {m n : Refusals} {mark : Option Fault}
+    → ((code : Code) (here : List Token) → m code here → n code here) → ((code : Code) (here : List Token) → n code here → m code here) → Marks P tokens m mark → Marks P tokens n mark
+marks_map {A} {P} {tokens} {m} {n} {mark} into out marks = record {
+  none = λ e code here is. marks.none e code here (out code here is);
+  some = λ fault e. let f = marks.some fault e in record {
+    pre = f.pre;
+    token = f.token;
+    others = f.others;
+    whole = f.whole;
+    begins = f.begins;
+    place = f.place;
+    first = record { is = into fault.code (f.token ∷ f.others) f.first.is; first = λ other there is. f.first.first other there (out other there is) };
+  };
+  within = λ code here is. marks.within code here (out code here is);
+}
+
+-- the marks of a part are those of a whole that begins with some tokens and the part
+pub lift_marks : {A B : Type 0} {P : A → List Token → Type 0} {Q : B → List Token → Type 0} {m : Refusals} {mark : Option Fault} (before tokens : List Token)
+    → ((l : List Token) → Begins P l → Begins Q (before ++ l)) → Marks P tokens m mark → Marks Q (before ++ tokens) m mark
+lift_marks {A} {B} {P} {Q} {m} {mark} before tokens lift marks = record {
+  none = marks.none;
+  some = λ fault e. let f = marks.some fault e in record {
+    pre = before ++ f.pre;
+    token = f.token;
+    others = f.others;
+    whole = ap (λ l. before ++ l) f.whole ∙ sym (append_assoc before f.pre (f.token ∷ f.others));
+    begins = subst (λ l. Begins Q l) (sym (append_assoc before f.pre (f.token ∷ []))) (lift (f.pre ++ f.token ∷ []) f.begins);
+    place = f.place;
+    first = f.first;
+  };
+  within = λ code here is. let le = marks.within code here is in omega (arith, le, length-append before tokens);
+}

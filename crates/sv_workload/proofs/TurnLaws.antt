@@ -1,16 +1,19 @@
 -- One turn more of a loop that reads elements.
-use Rattle.std.proofs.Common.{◌≡◌, ◌∙◌, ◌<◌, true, false, List, [], ◌∷◌, ◌++◌, length, Ok, Err, refl, sym, ap}
+use Rattle.std.proofs.Common.{◌≡◌, ◌∙◌, ◌<◌, true, false, List, [], ◌∷◌, ◌++◌, length, ℕ, Ok, Err, refl, sym, ap}
 use Rattle.sv_lex.specs.declared.tokens.Token.{Token}
 use Rattle.sv_app.specs.declared.requests.InitRow.{InitRow}
 use Rattle.sv_app.specs.Schema.{Declaration}
 use Rattle.sv_schema_reader.specs.declared.faults.Fault.{Fault}
 use Rattle.sv_schema_reader.specs.Reading.{Read, is_name}
 use Rattle.sv_schema_reader.proofs.ReadLaws.{same_read}
+use Rattle.sv_workload.specs.declared.written.Given.{Given}
 use Rattle.sv_workload.specs.declared.written.Row.{Row}
-use Rattle.sv_workload.specs.Reading.{as_item, row_from, rows_from}
+use Rattle.sv_workload.specs.declared.written.Setting.{Setting}
+use Rattle.sv_workload.specs.Reading.{as_item, row_from, rows_from, begins_setting, setting_from, settings_from, with_setting}
 use Rattle.sv_workload.specs.Rows.{init_row}
 use Rattle.sv_workload.proofs.InitLaws.{row_steps, row_shrinks}
 use Rattle.sv_workload.proofs.LoopLaws.{more, fault, end}
+use Rattle.sv_workload.proofs.SettingLaws.{setting_steps, setting_shrinks}
 
 -- what was read, before it became something else
 pub record Before {A B : Type 0} (view : A → B) (read : Read A) (b : B) (rest : List Token) : Type 0 where
@@ -43,3 +46,19 @@ pub rows_end : (schema : List Declaration) (rows : List InitRow) (tokens : List 
 rows_end schema rows tokens t = end (row_steps schema) rows tokens t
 
 pub ruleset rows = (rows_more, rows_less, rows_err, rows_end)
+
+pub settings_more : (count : ℕ) (g : Given) (tokens : List Token) (s : Setting × ℕ) (rest : List Token)
+    → begins_setting tokens ≡ true → setting_from count g tokens ≡ Ok (s, rest) → settings_from count g tokens ≡ settings_from count (with_setting g s) rest
+settings_more count g tokens s rest t e = more (setting_steps count) g tokens s rest t e
+
+pub settings_less : (count : ℕ) (g : Given) (tokens : List Token) (s : Setting × ℕ) (rest : List Token)
+    → begins_setting tokens ≡ true → setting_from count g tokens ≡ Ok (s, rest) → length rest < length tokens
+settings_less count g tokens s rest t e = setting_shrinks count g tokens s rest t e
+
+pub settings_err : (count : ℕ) (g : Given) (tokens : List Token) (f : Fault) → begins_setting tokens ≡ true → setting_from count g tokens ≡ Err f → settings_from count g tokens ≡ Err f
+settings_err count g tokens f t e = fault (setting_steps count) g tokens f t e
+
+pub settings_end : (count : ℕ) (g : Given) (tokens : List Token) → begins_setting tokens ≡ false → settings_from count g tokens ≡ Ok (g, tokens)
+settings_end count g tokens t = end (setting_steps count) g tokens t
+
+pub ruleset settings = (settings_more, settings_less, settings_err, settings_end)

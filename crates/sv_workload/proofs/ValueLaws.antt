@@ -50,6 +50,9 @@ natural_is (Mark m) z e = absurd cc
 pub number_of : (z : ℤ) (l : List Token) (m : Natural z l) → (n : ℕ) × (z ≡ pos n) × number n l
 number_of z l m = let is = natural_is m.token.kind z m.holds in (is.n, is.value, record { token = m.token; only = m.only; holds = is.is })
 
+pub natural_there : (n : ℕ) → natural_of (Number (pos n)) ≡ Some (pos n)
+natural_there n = ap (λ b. given b (pos n)) (not_below n)
+
 pub of_number : (n : ℕ) (l : List Token) → number n l → Natural (pos n) l
 of_number n l is = record { token = is.token; only = is.only; holds = ap natural_of is.holds ∙ ap (λ b. given b (pos n)) (not_below n) }
 

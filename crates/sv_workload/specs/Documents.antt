@@ -31,7 +31,9 @@ use Rattle.sv_workload.specs.LastRefused.{LastRefused, given}
 use Rattle.sv_workload.specs.Rows.{table_number, init_row}
 use Rattle.sv_workload.specs.declared.written.Row.{Row}
 use Rattle.sv_workload.specs.declared.written.Call.{Call}
-use Rattle.sv_workload.specs.Written.{Setting, Sites, Rows, Changes, Sent, Blue, Red, Line, Ask, Order, Deliver, Settle, Catch, Show, Cut, Session, Last, Absent, Replay, Run}
+use Rattle.sv_workload.specs.declared.written.Setting.{Setting}
+use Rattle.sv_workload.specs.declared.written.Setting.TheVariants.{Sites, Rows, Changes}
+use Rattle.sv_workload.specs.Written.{Sent, Blue, Red, Line, Ask, Order, Deliver, Settle, Catch, Show, Cut, Session, Last, Absent, Replay, Run}
 
 -- what a written call, packet and step stand for
 abbrev pub request_of : List Transaction → Call → Request

@@ -10,7 +10,9 @@ use Rattle.sv_app.specs.declared.requests.Arg.TheVariants as args
 use Rattle.sv_schema_reader.specs.Grammar.{◌·◌, nothing, kind, word, mark, name, text, separated}
 use Rattle.sv_workload.specs.declared.written.Row.{Row}
 use Rattle.sv_workload.specs.declared.written.Call.{Call}
-use Rattle.sv_workload.specs.Written.{Setting, Sites, Rows, Changes, Sent, Blue, Red, Line, Ask, Order, Deliver, Settle, Catch, Show, Cut, Session, Last, Absent, Replay, Run}
+use Rattle.sv_workload.specs.declared.written.Setting.{Setting}
+use Rattle.sv_workload.specs.declared.written.Setting.TheVariants.{Sites, Rows, Changes}
+use Rattle.sv_workload.specs.Written.{Sent, Blue, Red, Line, Ask, Order, Deliver, Settle, Catch, Show, Cut, Session, Last, Absent, Replay, Run}
 
 -- {x}
 abbrev pub many : {A : Type 0} → (A → List Token → Type 0) → List A → List Token → Type 0

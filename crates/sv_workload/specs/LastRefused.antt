@@ -19,7 +19,11 @@ use Rattle.sv_workload.specs.Fits.{CallFits, txn_of}
 use Rattle.sv_workload.specs.Grammar.{many, number, IsInteger, argument, call, setting_word, setting, line, session_head, entry, session, replay_head, run_head}
 use Rattle.sv_workload.specs.InitRefused.{BeginsName}
 use Rattle.sv_workload.specs.declared.written.Call.{Call}
-use Rattle.sv_workload.specs.Written.{Setting, Sites, Rows, Changes, Line, Ask, Order, Deliver, Settle, Catch, Show, Cut, Session}
+use Rattle.sv_workload.specs.declared.written.PartHead.{PartHead}
+use Rattle.sv_workload.specs.declared.written.PartHead.TheVariants.{Replay as ReplayHead, Run as RunHead}
+use Rattle.sv_workload.specs.declared.written.Setting.{Setting}
+use Rattle.sv_workload.specs.declared.written.Setting.TheVariants.{Sites, Rows, Changes}
+use Rattle.sv_workload.specs.Written.{Line, Ask, Order, Deliver, Settle, Catch, Show, Cut, Session}
 
 -- a word stands here, or a number
 abbrev pub BeginsWith : TokenKind → List Token → Type 0
@@ -159,10 +163,6 @@ pub data SessionRefused (txns : List Transaction) (before : List Session) (token
       → (BeginsWith (Mark RightBrace) here → ⊥) → SessionRefused txns before tokens code.Syntax here
 
 -- "%%" and a word that begins a last part
-pub data PartHead : Type 0 where
-  ReplayHead : PartHead
-  RunHead : PartHead
-
 abbrev pub part_head : PartHead → List Token → Type 0
 part_head ReplayHead = replay_head
 part_head RunHead = run_head

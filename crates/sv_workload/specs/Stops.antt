@@ -1,5 +1,5 @@
--- What became of the initial rows: they were read and are valid, or a refusal of them is known.
-use Rattle.std.specs.Prelude.{◌≡◌, ℕ, List, ◌-◌, length, drop, Some, slice_get, Ok, Err, Result}
+-- What became of the initial rows, and of a last part without steps and sessions: they were read, or a refusal of them is known.
+use Rattle.std.specs.Prelude.{◌≡◌, ℕ, List, [], ◌-◌, length, drop, max, Some, unwrap_or, slice_get, Ok, Err, Result}
 use Rattle.sv_value.specs.declared.spots.Spot.{Spot}
 use Rattle.sv_lex.specs.declared.tokens.Token.{Token}
 use Rattle.sv_app.specs.declared.refusals.Code.TheVariants.{BadInit}
@@ -11,7 +11,13 @@ use Rattle.sv_check.specs.Initial.{IsFirst, initial_tables}
 use Rattle.sv_schema_reader.specs.declared.faults.Fault.{Fault}
 use Rattle.sv_schema_reader.specs.Reading.{Read, IsLeft}
 use Rattle.sv_schema_reader.specs.Refused.{spot_of}
-use Rattle.sv_workload.specs.Reading.{init_from}
+use Rattle.sv_workload.specs.declared.parts.Parts.{Parts}
+use Rattle.sv_workload.specs.declared.parts.Work.{Work}
+use Rattle.sv_workload.specs.declared.parts.Work.TheVariants as works
+use Rattle.sv_workload.specs.declared.written.Given.{Given}
+use Rattle.sv_workload.specs.declared.written.PartHead.{PartHead}
+use Rattle.sv_workload.specs.declared.written.PartHead.TheVariants.{Replay as ReplayHead, Run as RunHead}
+use Rattle.sv_workload.specs.Reading.{init_from, front_from}
 
 -- the refusal of a fault
 abbrev pub refusal_of : List Token → Spot → Fault → Refusal
@@ -35,3 +41,28 @@ pub data InitStops (schema : List Declaration) (tokens : List Token) (end : Spot
 pub record InitKept (schema : List Declaration) (tokens : List Token) (rows : List InitRow) (left : ℕ) : Type 0 where
   pub read : IsLeft (init_from schema tokens) rows left
   pub valid : Valid schema (initial_tables rows)
+
+abbrev pub head_work : PartHead → Work
+head_work ReplayHead = works.Replay []
+head_work RunHead = works.Sessions []
+
+-- the parts with these initial rows and settings, and no steps or sessions
+abbrev pub set_parts : List InitRow → PartHead → Given → Parts
+set_parts rows head g = record {
+  init = rows;
+  sites = unwrap_or g.sites 1;
+  rows = unwrap_or g.rows (max 1024 (length rows));
+  changes = unwrap_or g.changes 8192;
+  work = head_work head;
+}
+
+pub record FrontKept (rows : List InitRow) (tokens : List Token) (parts : Parts) : Type 0 where
+  pub head : PartHead
+  pub given : Given
+  pub read : front_from (length rows) tokens ≡ Ok ((head, given), [])
+  pub made : parts ≡ set_parts rows head given
+
+pub record FrontStops (count : ℕ) (tokens : List Token) (end : Spot) (refusal : Refusal) : Type 0 where
+  pub fault : Fault
+  pub read : front_from count tokens ≡ Err fault
+  pub place : refusal ≡ refusal_of tokens end fault

@@ -2,11 +2,7 @@
 use Rattle.std.specs.Prelude.{ℕ, List}
 use Rattle.sv_app.specs.declared.apps.Ident.{Ident}
 use Rattle.sv_workload.specs.declared.written.Call.{Call}
-
-pub data Setting : Type 0 where
-  Sites : Setting
-  Rows : Setting
-  Changes : Setting
+use Rattle.sv_workload.specs.declared.written.Setting.{Setting}
 
 pub data Sent : Type 0 where
   Blue : ℕ → ℕ → Sent

@@ -81,6 +81,7 @@ pub fn read_init(
 ) -> Result<(List<InitRow>, usize), Stop>
     requires accepted { AcceptedApp (schema_of app.now.tables.items) (transactions_of app.now.txns.items) }
     ensures kept { IfOk result (λ read. InitKept (schema_of app.now.tables.items) tokens.now read.0 read.1) }
+    ensures few { IfOk result (λ read. length read.0 ≤ 4096) }
     ensures refused { (refusal : IsRefusal) → result ≡ Err (Refused refusal) → InitStops (schema_of app.now.tables.items) tokens.now end refusal }
 {
     match read_front(alloc, app, tokens) {

@@ -6,9 +6,9 @@ mod inits;
 mod parts;
 mod reading;
 mod rows;
+mod settings;
 mod values;
 mod written;
 
 pub use parts::{Parts, Step, Work};
-pub use reading::read_parts;
-pub use written::{Call, Row};
+pub use written::{Call, Color, Given, PartHead, Row, Setting, Verb};

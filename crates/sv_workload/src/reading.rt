@@ -1,17 +1,134 @@
-ghost use Rattle.std.specs.Prelude.{◌≡◌, ◌≤◌, Ok, Err, IfOk, length, drop};
+ghost use Rattle.std.specs.Prelude.{◌≡◌, ◌≤◌, Ok, Err, IfOk, ◌-◌, length, drop, max};
 ghost use Rattle.sv_app.specs.declared.refusals.Refusal.{Refusal as IsRefusal};
 ghost use Rattle.sv_app.specs.declared.refusals.Stop.TheVariants.{Refused};
 ghost use Rattle.sv_app.specs.Accepted.{AcceptedApp};
 ghost use Rattle.sv_app.specs.Schema.{schema_of};
 ghost use Rattle.sv_app.specs.Trees.{transactions_of};
 ghost use Rattle.sv_workload.specs.declared.parts.Parts.{Parts as AnyParts};
+ghost use Rattle.sv_workload.specs.declared.parts.Work.TheVariants.{Nothing};
 ghost use Rattle.sv_workload.specs.Documents.{AreParts, IsRefused, IsAnswer};
+ghost use Rattle.sv_workload.specs.Reading.{IsBounded};
+ghost use Rattle.sv_workload.specs.Stops.{head_work, set_parts, FrontKept, FrontStops};
 
-use crate::parts::Parts;
+use crate::checked::{read_init, refusal_of};
+use crate::parts::{Parts, Work};
+use crate::settings::front;
+use crate::written::{Given, PartHead};
 use std::alloc::Global;
-use sv_app::{App, Stop};
+use sv_app::{App, InitRow, Stop};
 use sv_lex::Token;
-use sv_value::Spot;
+use sv_schema_reader::{Halt, Reader};
+use sv_value::{List, Spot};
+
+/// How many rows there may be, where there are fewer initial rows and nothing else is set.
+const DEFAULT_ROWS: usize = 1_024;
+
+/// How many changes there may be, where nothing else is set.
+const DEFAULT_CHANGES: u32 = 8_192;
+
+/// Parts with nothing to do.
+fn bare_parts(init: List<InitRow>) -> Parts
+    requires { length init ≤ 4096 }
+    ensures { result ≡ record { init = init; sites = 1; rows = max 1024 (length init); changes = 8192; work = Nothing } }
+{
+    Parts {
+        sites: 1,
+        rows: init.len().max(DEFAULT_ROWS) as u32,
+        changes: DEFAULT_CHANGES,
+        work: Work::Nothing,
+        init,
+    }
+}
+
+/// What a last part without steps and sessions asks for.
+fn head_work(alloc: Global, head: PartHead) -> Work
+    ensures { result ≡ head_work head }
+{
+    match head {
+        PartHead::Replay => Work::Replay(List::new(alloc)),
+        PartHead::Run => Work::Sessions(List::new(alloc)),
+    }
+}
+
+/// Parts with these settings, and without steps and sessions.
+fn set_parts(alloc: Global, init: List<InitRow>, head: PartHead, given: &Given) -> Parts
+    requires few { length init ≤ 4096 }
+    requires bounded { IsBounded given.now }
+    ensures { result ≡ set_parts init head given.now }
+{
+    Parts {
+        sites: match given.sites {
+            Some(number) => number as u8,
+            None => 1,
+        },
+        rows: match given.rows {
+            Some(number) => number as u32,
+            None => init.len().max(DEFAULT_ROWS) as u32,
+        },
+        changes: match given.changes {
+            Some(number) => number as u32,
+            None => DEFAULT_CHANGES,
+        },
+        work: head_work(alloc, head),
+        init,
+    }
+}
+
+/// The last of these tokens.
+fn behind(tokens: &[Token], left: usize) -> &[Token]
+    ensures { result.now ≡ drop (length tokens.now - left) tokens.now }
+{
+    &tokens[tokens.len().saturating_sub(left)..]
+}
+
+/// Reads a last part without steps and sessions, behind these initial rows. Steps and sessions aren't read yet: they are
+/// answered as want of memory.
+fn read_last(
+    alloc: Global,
+    init: List<InitRow>,
+    tokens: &[Token],
+    end: Spot,
+) -> Result<Parts, Stop>
+    requires few { length init ≤ 4096 }
+    ensures read { IfOk result (λ parts. FrontKept init tokens.now parts) }
+    ensures refused { (refusal : IsRefusal) → result ≡ Err (Refused refusal) → FrontStops (length init) tokens.now end refusal }
+{
+    let mut reader = Reader { rest: tokens };
+    match front(&mut reader, init.len()) {
+        Ok((head, given)) => {
+            if reader.rest.is_empty() {
+                Ok(set_parts(alloc, init, head, &given))
+            } else {
+                Err(Stop::NoMemory)
+            }
+        }
+        Err(Halt::Faulty(fault)) => Err(Stop::Refused(refusal_of(tokens, end, fault))),
+        Err(Halt::NoMemory) => Err(Stop::NoMemory),
+    }
+}
+
+/// Reads the parts of a document that are all of these tokens.
+fn read_whole(
+    alloc: Global,
+    app: &App,
+    tokens: &[Token],
+    end: Spot,
+) -> Result<Parts, Stop>
+    requires { AcceptedApp (schema_of app.now.tables.items) (transactions_of app.now.txns.items) }
+    ensures read { IfOk result (λ parts. AreParts (schema_of app.now.tables.items) (transactions_of app.now.txns.items) tokens.now parts) }
+    ensures all { (parts : AnyParts) → AreParts (schema_of app.now.tables.items) (transactions_of app.now.txns.items) tokens.now parts → IsAnswer result parts }
+    ensures refused { (refusal : IsRefusal) → result ≡ Err (Refused refusal) → IsRefused (schema_of app.now.tables.items) (transactions_of app.now.txns.items) tokens.now end refusal }
+{
+    match read_init(alloc, app, tokens, end) {
+        Ok((init, left)) => {
+            if left == 0 {
+                return Ok(bare_parts(init));
+            }
+            read_last(alloc, init, behind(tokens, left), end)
+        }
+        Err(stop) => Err(stop),
+    }
+}
 
 /// Reads what stands behind the transactions of a document, from the place `at` on up to its end: the initial rows and
 /// the last part, each of which may be missing. `end` is the place behind the last byte of the document.
@@ -20,7 +137,7 @@ use sv_value::Spot;
 ///
 /// `Refused` with the first refusal of the initial rows; where there is none, with the first row that breaks an
 /// invariant; and where there is none either, with the first refusal of the last part.
-pub fn read_parts(
+pub(crate) fn read_parts(
     alloc: Global,
     app: &App,
     tokens: &[Token],
@@ -36,5 +153,5 @@ pub fn read_parts(
     // the refusal is the first one
     ensures refused { (refusal : IsRefusal) → result ≡ Err (Refused refusal) → IsRefused (schema_of app.now.tables.items) (transactions_of app.now.txns.items) (drop at tokens.now) end refusal }
 {
-    Err(Stop::NoMemory)
+    read_whole(alloc, app, &tokens[at..], end)
 }

@@ -1,6 +1,6 @@
 ghost use Rattle.std.specs.Prelude.{◌≡◌, OnOk, []};
 ghost use Rattle.sv_schema_reader.specs.Reading.{Reads, list_at};
-ghost use Rattle.sv_workload.specs.Reading.{natural_of, natural_at, integer_at, value_at, value_step, row_at};
+ghost use Rattle.sv_workload.specs.Reading.{natural_of, natural_at, count_at, integer_at, value_at, value_step, row_at};
 
 use crate::written::Row;
 use std::alloc::Global;
@@ -9,7 +9,7 @@ use sv_schema_reader::{Halt, Reader};
 use sv_value::{List, Val};
 
 /// The number that a token is.
-fn natural_of(token: &Token) -> Option<i64>
+pub fn natural_of(token: &Token) -> Option<i64>
     ensures { result ≡ natural_of token.now.kind }
 {
     match &token.kind {
@@ -29,6 +29,14 @@ fn natural(reader: &mut Reader<'_>) -> Result<i64, Halt>
         }
     }
     Err(Halt::Faulty(reader.misplaced()))
+}
+
+/// Reads a number that counts.
+pub fn count(reader: &mut Reader<'_>) -> Result<u64, Halt>
+    ensures { Reads (λ n. n) result reader.new.rest.now (count_at reader.old.rest.now) }
+{
+    let number = natural(reader)?;
+    Ok(number.unsigned_abs())
 }
 
 /// Reads a number with or without a sign.

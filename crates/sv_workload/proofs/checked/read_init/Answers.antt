@@ -30,3 +30,6 @@ pub returns-in-Err-Faulty-clause-refused : goal.returns-in-Err-Faulty-clause-ref
 returns-in-Err-Faulty-clause-refused c refusal e =
     let same : c.refusal_of.result ≡ refusal = cc in
     ByFault c.in-Err-Faulty.fault (c.in-Err-Faulty.ensures.fault c.in-Err-Faulty.fault (ap Err c.in-Err-Faulty.field-0-is)) (sym same ∙ c.refusal_of.ensures ∙ ap (refusal_of c.args.tokens.now c.args.end) c.in-Err-Faulty.fault-is)
+
+pub returns-in-Ok-check_rows-clause-few : goal.returns-in-Ok-check_rows-clause-few
+returns-in-Ok-check_rows-clause-few c = rows_few (schema_of c.args.app.now.tables.items) c.args.tokens.now c.in-Ok.rows c.in-Ok.left c.in-Ok.ensures.read
