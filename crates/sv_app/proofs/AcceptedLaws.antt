@@ -1,12 +1,11 @@
 -- What is known of the tables of an accepted application.
-use Rattle.std.proofs.Common.{◌≡◌, ◌≢◌, ℕ, ℤ, pos, zero, suc, ◌<◌, ◌≤◌, ◌&&◌, ◌||◌, Bool, true, false, List, [], ◌∷◌, ◌++◌, length, get_or, Some, slice_get, refl, sym, ap, subst, ◌∙◌, arith}
+use Rattle.std.proofs.Common.{◌≡◌, ◌≢◌, ℕ, pos, zero, suc, ◌≤◌, ◌&&◌, ◌||◌, Bool, true, false, List, [], ◌∷◌, ◌++◌, length, Some, slice_get, refl, sym, ap, subst, ◌∙◌}
 use Rattle.std.specs.List.{All, flat_map}
 use Rattle.std.proofs.lemmas.List.Elements.{All-nil}
 use Rattle.std.proofs.lemmas.Option.{slice_get_within, get_or_from_slice_get}
 use Rattle.sv_value.specs.declared.spots.Spot.{Spot}
 use Rattle.sv_app.specs.declared.refusals.Code.{Code}
 use Rattle.sv_app.specs.declared.refusals.Code.TheVariants.{Typing}
-use Rattle.sv_app.specs.declared.refusals.Refusal.{Refusal}
 use Rattle.sv_app.specs.declared.schemas.Column.{Column}
 use Rattle.sv_app.specs.declared.schemas.Merge.{Merge}
 use Rattle.sv_app.specs.declared.schemas.Merge.TheVariants.{NumDelta}
@@ -17,7 +16,7 @@ use Rattle.sv_app.specs.Conditions.{KeepsTable, IsSmallTable}
 use Rattle.sv_app.specs.Lookups.{is_key, table_names, column_names}
 use Rattle.sv_app.specs.Satisfiable.{checks_of, IsMet, IsSatisfiable, AreSatisfiable}
 use Rattle.sv_app.specs.Schema.{Declaration}
-use Rattle.sv_app.specs.Typing.{fault_if, is_text, is_numdelta, has_merge_kind, is_merged_wrong, repeats, key_faults, column_faults, rule_faults, table_faults, faults}
+use Rattle.sv_app.specs.Typing.{fault_if, is_text, is_numdelta, has_merge_kind, is_merged_wrong, repeats, key_faults, column_faults, rule_faults, table_faults}
 
 -- what holds of all holds of the one that stands there
 pub all_at : {A : Type 0} (P : A → Type 0) (xs : List A) (n : ℕ) (x : A) → All P xs → slice_get xs n ≡ Some x → P x

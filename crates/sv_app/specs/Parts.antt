@@ -1,5 +1,4 @@
 -- The parts of a statement, as what the statement says.
-use Rattle.std.specs.Prelude.{Option, Some, None}
 use Rattle.std.specs.Option.{option_map}
 use Rattle.sv_app.specs.declared.parts.Parts.{Parts}
 use Rattle.sv_app.specs.declared.parts.Parts.TheVariants as parts

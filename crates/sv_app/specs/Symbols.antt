@@ -1,10 +1,10 @@
 -- Where the values of symbols come from. A source is brought in when it is first evaluated in an instance; until then it isn't known.
-use Rattle.std.specs.Prelude.{ℕ, ◌==◌, ◌&&◌, ◌||◌, not, Bool, true, false, List, [], ◌∷◌, ◌++◌, filter}
+use Rattle.std.specs.Prelude.{ℕ, ◌==◌, ◌&&◌, not, Bool, true, false, List, [], ◌∷◌, ◌++◌, filter}
 use Rattle.std.specs.List.{list_any}
 use Rattle.sv_app.specs.declared.apps.Ident.{Ident}
 use Rattle.sv_app.specs.declared.instances.Source.{Source}
 use Rattle.sv_app.specs.declared.instances.Source.TheVariants as sources
-use Rattle.sv_app.specs.Trees.{Term, Number, Words, Variable, Field, Old, Minus, Sum, Difference, Product, Command, Declare, Assign, Fetch, Choose, ForRows, ForEach, Insert, Update, Remove, Abort, Reply, Block, Finish, Then}
+use Rattle.sv_app.specs.Trees.{Term, Number, Minus, Command, Declare, Assign, Fetch, Choose, ForRows, ForEach, Insert, Update, Remove, Abort, Reply, Block, Finish, Then}
 
 abbrev pub is_same_source : Source → Source → Bool
 is_same_source (sources.Variable x) (sources.Variable y) = x == y

@@ -1,9 +1,9 @@
 -- What transactions keep before their names and types are looked at: the grammar and the limits.
-use Rattle.std.specs.Prelude.{◌≡◌, ℕ, ◌≤◌, Bool, true, false, List, length}
+use Rattle.std.specs.Prelude.{◌≡◌, ◌≤◌, Bool, true, false, List, length}
 use Rattle.std.specs.List.{All, flat_map, filter}
 use Rattle.sv_app.specs.Depths.{depths, block_depth}
 use Rattle.sv_app.specs.Statements.{block_statements}
-use Rattle.sv_app.specs.Trees.{Term, Command, Declare, Assign, Fetch, Choose, ForRows, ForEach, Insert, Update, Remove, Abort, Reply, Block, Transaction}
+use Rattle.sv_app.specs.Trees.{Term, Command, Declare, Fetch, ForRows, ForEach, Insert, Update, Remove, Abort, Block, Transaction}
 
 abbrev pub is_loop : Command → Bool
 is_loop (ForRows r t c body) = true

@@ -1,13 +1,12 @@
 -- What a run needs besides its changes: kept rows for updates and removes, and present rows for references to grow-only tables.
-use Rattle.std.specs.Prelude.{ℕ, ◌==◌, ◌&&◌, ◌||◌, not, if◌then◌else◌, Bool, true, false, List, [], ◌∷◌, ◌++◌, Option, Some, None, slice_get}
+use Rattle.std.specs.Prelude.{ℕ, ◌==◌, ◌&&◌, not, if◌then◌else◌, Bool, true, false, List, [], ◌∷◌, ◌++◌, Option, Some, None, slice_get}
 use Rattle.std.specs.List.{list_any, flat_map}
-use Rattle.sv_value.specs.declared.values.Key.{Key}
 use Rattle.sv_value.specs.declared.values.Val.{Val}
 use Rattle.sv_app.specs.declared.acts.Act.{Act}
 use Rattle.sv_app.specs.declared.acts.Act.TheVariants.{Insert, Update, Remove}
 use Rattle.sv_app.specs.declared.apps.Ident.{Ident}
 use Rattle.sv_app.specs.declared.places.Place.{Place}
-use Rattle.sv_app.specs.Schema.{Rule, Bound, OneOf, Different, Refers, Invariant, Declaration}
+use Rattle.sv_app.specs.Schema.{Rule, Bound, OneOf, Different, Refers, Declaration}
 use Rattle.sv_app.specs.Kinds.{is_grow_only}
 use Rattle.sv_effect.specs.declared.ops.Need.{Need}
 use Rattle.sv_effect.specs.declared.ops.Need.TheVariants as needs

@@ -1,16 +1,13 @@
 -- What one statement of a run changes: the writes of an update and of an insert, and the row after them.
-use Rattle.std.specs.Prelude.{ℕ, suc, ℤ, pos, ◌+ℤ◌, ◌-ℤ◌, ◌==◌, ◌||◌, if◌then◌else◌, Bool, true, false, List, [], ◌∷◌, ◌++◌, Option, Some, None, map, slice_get}
+use Rattle.std.specs.Prelude.{ℕ, suc, ℤ, pos, ◌+ℤ◌, ◌-ℤ◌, ◌==◌, if◌then◌else◌, Bool, true, false, List, [], ◌∷◌, ◌++◌, Option, Some, None, map, slice_get}
 use Rattle.sv_value.specs.declared.values.Key.{Key}
 use Rattle.sv_value.specs.declared.values.Val.{Val}
-use Rattle.sv_value.specs.declared.values.Val.TheVariants.{Int, Text as IsText}
 use Rattle.sv_app.specs.declared.acts.Act.{Act}
 use Rattle.sv_app.specs.declared.apps.Ident.{Ident}
 use Rattle.sv_app.specs.declared.gots.Got.{Got}
 use Rattle.sv_app.specs.declared.gots.Got.TheVariants as gots
 use Rattle.sv_app.specs.declared.places.Place.{Place}
 use Rattle.sv_app.specs.declared.schemas.Column.{Column}
-use Rattle.sv_app.specs.declared.schemas.Kind.{Kind}
-use Rattle.sv_app.specs.declared.schemas.Kind.TheVariants as kinds
 use Rattle.sv_app.specs.declared.schemas.Merge.{Merge}
 use Rattle.sv_app.specs.declared.schemas.Merge.TheVariants as merges
 use Rattle.sv_app.specs.Schema.{Declaration}
@@ -25,7 +22,7 @@ use Rattle.sv_effect.specs.Applied.{place_of}
 use Rattle.sv_app.specs.Kinds.{is_grow_only}
 use Rattle.sv_effect.specs.BareTables.{got_of}
 use Rattle.sv_effect.specs.RowChange.{zero_values}
-use Rattle.sv_effect.specs.RunValues.{nothing, Progress, put, Scope, with_progress, narrow, Evaluated, Leaves, Gives, then_value, val_of, column, read_old, value_of}
+use Rattle.sv_effect.specs.RunValues.{nothing, put, Scope, with_progress, narrow, Evaluated, Leaves, Gives, then_value, val_of, column, read_old, value_of}
 use Rattle.sv_effect.specs.TablesOfCut.{number_in}
 
 -- a change of a run, with the number of its instance

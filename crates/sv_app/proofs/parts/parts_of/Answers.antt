@@ -1,4 +1,3 @@
-use Rattle.std.proofs.Common.{◌≡◌}
 use Rattle.sv_app.proofs.Trees.{if_is, rows_is, each_is}
 use Rattle.sv_app.proofs.parts.parts_of.Goals as goal
 
