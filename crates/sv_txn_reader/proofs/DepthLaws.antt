@@ -1,9 +1,9 @@
 -- What is written with no limit passed is no deeper than the limit, and takes a token.
-use Rattle.std.proofs.Common.{◌≡◌, ℕ, suc, ◌+◌, ◌≤◌, ◌⊎◌, inl, inr, List, [], ◌∷◌, length, max, refl, subst, sym, ap, arith}
+use Rattle.std.proofs.Common.{◌≡◌, ℕ, suc, ◌+◌, ◌≤◌, inl, inr, List, length, max, refl, ap, arith}
 use Rattle.sv_lex.specs.declared.tokens.Token.{Token}
 use Rattle.sv_value.specs.declared.spots.Spot.{Spot}
 use Rattle.sv_app.specs.Depths.{term_depth, test_depth}
-use Rattle.sv_app.specs.Trees.{Term, Number, Words, Variable, Field, Old, Minus, Sum, Difference, Product, Test, Compare, Negation, Both, Either}
+use Rattle.sv_app.specs.Trees.{Term, Number, Words, Variable, Field, Old, Minus, Sum, Difference, Product, Test}
 use Rattle.sv_txn_reader.specs.Grammar.{One, Within, limit, placed, Rank, IsTerm, ANumber, AText, AVariable, AField, AnOld, ASign, AGroup, OneFactor, AProduct, OneProduct, ASum, ADifference, expr, Join, IsTest, AComparison, ANegation, ABracket, OneLiteral, AnAnd, OneConjunction, AnOr, cond}
 
 pub one_some : (Holds : Token → Type 0) (tokens rest : List Token) → One Holds tokens rest → 1 ≤ length tokens

@@ -1,5 +1,5 @@
 -- Transactions that are written with no limit passed keep what acceptance asks for.
-use Rattle.std.proofs.Common.{◌≡◌, ◌∙◌, ℕ, Bool, cond, zero, suc, ◌+◌, ◌≤◌, ◌⊎◌, inl, inr, true, false, List, [], ◌∷◌, ◌++◌, length, map, max, Option, Some, None, refl, sym, ap, subst, arith}
+use Rattle.std.proofs.Common.{◌≡◌, ◌∙◌, ℕ, Bool, cond, suc, ◌+◌, ◌≤◌, inl, inr, true, false, List, [], ◌∷◌, ◌++◌, length, map, Option, Some, None, refl, sym, ap, subst, arith}
 use Rattle.std.specs.List.{All, filter, flat_map}
 use Rattle.std.proofs.lemmas.Grind.{flat_map-append}
 use Rattle.std.proofs.lemmas.List.{length-append}
@@ -15,7 +15,6 @@ use Rattle.sv_txn_reader.specs.Grammar.{expr, keys, index, setting, others, sepa
 use Rattle.sv_txn_reader.specs.Refused.{AreRead}
 use Rattle.sv_txn_reader.specs.Standing.{Standing, outside, one_statement, deeper, in_loop, behind, past_command, command_counts, block_counts}
 use Rattle.sv_txn_reader.proofs.DepthLaws.{one_some, limit_kept, limit_some, expr_kept, cond_kept}
-
 
 abbrev AllShallow : List ℕ → Type 0
 AllShallow ds = All (λ d. d ≤ 16) ds
@@ -133,8 +132,10 @@ flat at c alone no_loop no_declaration deep counts keeps shallow = record {
   where
     none : (p : Command → Bool) → p c ≡ false → length (filter p (c ∷ [])) ≡ 0
     none p e = rw e refl
+
     loops : length (filter is_loop (command_statements c)) ≡ 0
     loops = ap (λ (l : List Command). length (filter is_loop l)) alone ∙ none is_loop no_loop
+
     variables : length (filter is_declaration (command_statements c)) ≡ 0
     variables = ap (λ (l : List Command). length (filter is_declaration l)) alone ∙ none is_declaration no_declaration
 
@@ -223,10 +224,13 @@ loop_kept at c body is keeps shallow single loops few b = record {
   where
     long : length (command_statements c) ≡ suc (length (block_statements body))
     long = ap (λ (l : List Command). length l) is.statements
+
     here : (p : Command → Bool) (x : Bool) → p c ≡ x → length (filter p (c ∷ block_statements body)) ≡ length (cond {A = List Command} x (c ∷ filter p (block_statements body)) (filter p (block_statements body)))
     here p x e = rw e refl
+
     looped : length (filter is_loop (command_statements c)) ≡ suc (length (loops_of body))
     looped = ap (λ (l : List Command). length (filter is_loop l)) is.statements ∙ here is_loop true is.loop
+
     declared : length (filter is_declaration (command_statements c)) ≡ length (filter is_declaration (block_statements body))
     declared = ap (λ (l : List Command). length (filter is_declaration l)) is.statements ∙ here is_declaration false is.declares
 
