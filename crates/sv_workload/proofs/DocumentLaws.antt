@@ -118,7 +118,7 @@ module _ (schema : List Declaration) (txns : List Transaction) where
         let found = (init_judged schema tokens).wrong fault e in
         let split = init_suffix schema tokens fault.code found.here found.first.is in
         InInit fault.code found.here found.first
-            (place ∙ (λ i. record { spot = spot_of end ((ap (λ n. drop (length tokens - n) tokens) found.place ∙ suffix_at tokens split.front found.here split.whole) i); code = fault.code }))
+        (place ∙ (λ i. record { spot = spot_of end ((ap (λ n. drop (length tokens - n) tokens) found.place ∙ suffix_at tokens split.front found.here split.whole) i); code = fault.code }))
     refused end refusal (ByRow rows rest e bad) = by_took ((init_judged schema tokens).took rows rest e)
       where
         by_took : InitRows schema tokens rows rest → IsRefused schema txns tokens end refusal

@@ -178,8 +178,7 @@ module _ (schema : List Declaration) where
   pub good_from : (before rows : List Row) (tokens front rest : List Token) → tokens ≡ front ++ rest → many row rows front → AreNone (Among row (RowRefused schema) before tokens) → GoodFrom schema before rows
   good_from before [] tokens front rest w is right = tt
   good_from before (r ∷ rows) tokens front rest w is right =
-      let whole : tokens ≡ is.front ++ (is.back ++ rest) = w ∙ ap (λ l. l ++ rest) is.whole ∙ append_assoc is.front is.back rest in
-      (
+      let whole : tokens ≡ is.front ++ (is.back ++ rest) = w ∙ ap (λ l. l ++ rest) is.whole ∙ append_assoc is.front is.back rest in (
         good_row before tokens is.front (is.back ++ rest) r whole is.first (λ code here refused. right code here (Here before tokens code here refused)),
         good_from (before ++ r ∷ []) rows (is.back ++ rest) is.back rest refl is.then
             (λ code here refused. right code here (subst (λ l. Among row (RowRefused schema) before l code here) (sym whole) (Behind before r is.front (is.back ++ rest) code here is.first refused))),

@@ -172,5 +172,5 @@ module _ (schema : List Declaration) (txns : List Transaction) where
         let place : drop (length rest_here - f.fault.left) rest_here ≡ found.here
         = ap (λ l. drop (length l - f.fault.left) l) same_rest ∙ ap (λ n. drop (length k.rest - n) k.rest) found.place ∙ suffix_at k.rest s.front found.here s.whole in
         InLast k.written k.rest f.fault.code found.here (good_of schema txns tokens rows left k is.valid)
-            (subst (λ n. IsFirst (LastRefused schema txns n k.rest) f.fault.code found.here) same_count found.first)
-            (f.place ∙ (λ i. record { spot = spot_of end (place i); code = f.fault.code }))
+        (subst (λ n. IsFirst (LastRefused schema txns n k.rest) f.fault.code found.here) same_count found.first)
+        (f.place ∙ (λ i. record { spot = spot_of end (place i); code = f.fault.code }))

@@ -60,7 +60,6 @@ row_opens r front rest is = name_next r.table _ front rest is
 row_some : (r : Row) → row r [] → ⊥
 row_some r is = let bad : is.first.token ∷ is.back ≡ [] = sym (is.whole ∙ ap (λ l. l ++ is.back) is.first.only) in absurd cc
 
-
 row_begins : (token : Token) (ident : Ident) → IsName ident token → Begins row (token ∷ [])
 row_begins token ident is = record {
   more = token_of (OfMark LeftParen) ∷ token_of (Number (pos 0)) ∷ token_of (OfMark RightParen) ∷ token_of (OfMark Semi) ∷ [];

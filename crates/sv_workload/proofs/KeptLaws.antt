@@ -42,7 +42,7 @@ module _ (schema : List Declaration) (tokens : List Token) (rows : List InitRow)
   good _ _ (NoInit begins) right = tt
   good _ _ (Init written front rest whole is ends) right =
       good_from schema [] written (is.back ++ rest) is.back rest refl is.then
-          (λ code here among. right code here (InRows is.front (is.back ++ rest) code here (whole ∙ ap (λ l. l ++ rest) is.whole ∙ append_assoc is.front is.back rest) is.first among))
+      (λ code here among. right code here (InRows is.front (is.back ++ rest) code here (whole ∙ ap (λ l. l ++ rest) is.whole ∙ append_assoc is.front is.back rest) is.first among))
 
   its : (k : Kept schema tokens rows left) → GoodFrom schema [] k.written
   its k = good k.written k.rest k.are k.right

@@ -137,7 +137,6 @@ integers_joined (x ∷ xs) z front back are is = record {
       };
     }
 
-
 abbrev zero_number : Token
 zero_number = token_of (Number (pos 0))
 

@@ -103,11 +103,7 @@ fn next_row(
 
 /// Reads all rows that stand here.
 #[tactic(auto, using(crate::proofs::TurnLaws::rows))]
-fn rows(
-    alloc: Global,
-    reader: &mut Reader<'_>,
-    tables: &[Table],
-) -> Result<List<InitRow>, Halt>
+fn rows(alloc: Global, reader: &mut Reader<'_>, tables: &[Table]) -> Result<List<InitRow>, Halt>
     requires few { length tables.now ≤ 16 }
     ensures { Reads (λ rows. rows) result reader.new.rest.now (rows_from (schema_of tables.now) [] reader.old.rest.now) }
 {

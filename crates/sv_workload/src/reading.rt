@@ -83,12 +83,7 @@ fn behind(tokens: &[Token], left: usize) -> &[Token]
 
 /// Reads a last part without steps and sessions, behind these initial rows. Steps and sessions aren't read yet: they are
 /// answered as want of memory.
-fn read_last(
-    alloc: Global,
-    init: List<InitRow>,
-    tokens: &[Token],
-    end: Spot,
-) -> Result<Parts, Stop>
+fn read_last(alloc: Global, init: List<InitRow>, tokens: &[Token], end: Spot) -> Result<Parts, Stop>
     requires few { length init ≤ 4096 }
     ensures read { IfOk result (λ parts. FrontKept init tokens.now parts) }
     ensures refused { (refusal : IsRefusal) → result ≡ Err (Refused refusal) → FrontStops (length init) tokens.now end refusal }
@@ -108,12 +103,7 @@ fn read_last(
 }
 
 /// Reads the parts of a document that are all of these tokens.
-fn read_whole(
-    alloc: Global,
-    app: &App,
-    tokens: &[Token],
-    end: Spot,
-) -> Result<Parts, Stop>
+fn read_whole(alloc: Global, app: &App, tokens: &[Token], end: Spot) -> Result<Parts, Stop>
     requires { AcceptedApp (schema_of app.now.tables.items) (transactions_of app.now.txns.items) }
     ensures read { IfOk result (λ parts. AreParts (schema_of app.now.tables.items) (transactions_of app.now.txns.items) tokens.now parts) }
     ensures all { (parts : AnyParts) → AreParts (schema_of app.now.tables.items) (transactions_of app.now.txns.items) tokens.now parts → IsAnswer result parts }

@@ -24,7 +24,7 @@ returns-in-Err-clause-refused c refusal e =
     let k = kept (schema_of c.args.app.now.tables.items) c.args.tokens.now c.in-Ok.rows c.in-Ok.left c.in-Ok.ensures.read in
     let stop : c.in-Err.stop ≡ Refused refusal = cc in
     ByRow c.in-Ok.rows k.rest k.is
-        (subst (λ l. IsBad (schema_of c.args.app.now.tables.items) l refusal) c.items.ensures (c.check_rows.ensures.bad refusal (c.in-Err.is ∙ ap Err stop)))
+    (subst (λ l. IsBad (schema_of c.args.app.now.tables.items) l refusal) c.items.ensures (c.check_rows.ensures.bad refusal (c.in-Err.is ∙ ap Err stop)))
 
 pub returns-in-Err-Faulty-clause-refused : goal.returns-in-Err-Faulty-clause-refused
 returns-in-Err-Faulty-clause-refused c refusal e =

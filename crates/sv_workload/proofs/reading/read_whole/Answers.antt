@@ -8,7 +8,6 @@ use Rattle.sv_workload.proofs.DocumentLaws.{bare_read, bare_all, no_answer, ok_m
 use Rattle.sv_workload.proofs.FrontDocumentLaws.{last_read, last_all, last_stopped, last_refused}
 use Rattle.sv_workload.proofs.reading.read_whole.Goals as goal
 
-
 kept_none : (c : goal.After-bare_parts) → InitKept (schema_of c.args.app.now.tables.items) c.args.tokens.now c.in-Ok.init 0
 kept_none c = subst (λ n. InitKept (schema_of c.args.app.now.tables.items) c.args.tokens.now c.in-Ok.init n) c.if-left-eq0.true c.in-Ok.ensures.kept
 
