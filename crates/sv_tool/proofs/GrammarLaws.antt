@@ -1,5 +1,5 @@
 -- Tables that were read keep the grammar, and their invariants are numbered in order of writing.
-use Rattle.std.proofs.Common.{◌≡◌, ◌≢◌, ℕ, zero, suc, ◌+◌, ◌≤◌, List, [], ◌∷◌, ◌++◌, length, Option, Some, None, refl, subst, arith}
+use Rattle.std.proofs.Common.{◌≡◌, ◌≢◌, ℕ, zero, suc, ◌+◌, ◌≤◌, List, [], ◌∷◌, ◌++◌, length, Option, Some, None, refl, sym, subst, arith}
 use Rattle.std.specs.List.{All, AllByRecursion, flat_map}
 use Rattle.std.proofs.lemmas.List.Elements.{All-nil, All-cons}
 use Rattle.sv_lex.specs.declared.tokens.Token.{Token}
@@ -94,7 +94,7 @@ kept_schema [] tokens is = absurd is
 kept_schema (t ∷ ts) tokens is = record { any = omega arith; each = kept_tables 0 (t ∷ ts) tokens is }
 
 pub grammar_of : (tokens rest : List Token) (declarations : List Declaration) → IsRead tokens rest declarations → KeepsGrammar declarations
-grammar_of tokens rest declarations read = subst KeepsGrammar (λ i. read.declares (~ i)) (kept_schema read.tables tokens read.is)
+grammar_of tokens rest declarations read = subst KeepsGrammar (sym read.declares) (kept_schema read.tables tokens read.is)
 
 numbered_on : (number : ℕ) (xs ys : List Invariant) → AreNumberedFrom number xs → AreNumberedFrom (number + length xs) ys → AreNumberedFrom number (xs ++ ys)
 numbered_on number [] ys first rest = let same : number + 0 ≡ number = omega arith in subst (λ n. AreNumberedFrom n ys) same rest
@@ -110,8 +110,9 @@ numbered_items count (Demand spot rule ∷ items) = (refl, numbered_items (suc c
 numbered_tables : (count : ℕ) (ts : List Written) → AreNumberedFrom (suc count) (flat_map (λ t. t.invs) (declared_behind count ts))
 numbered_tables count [] = tt
 numbered_tables count (t ∷ ts) =
+    let same : suc (count + length (invariants_of count t.items)) ≡ suc count + length (invariants_of count t.items) = omega arith in
     numbered_on (suc count) (invariants_of count t.items) (flat_map (λ u. u.invs) (declared_behind (count + length (invariants_of count t.items)) ts)) (numbered_items count t.items)
-    (numbered_tables (count + length (invariants_of count t.items)) ts)
+    (subst (λ n. AreNumberedFrom n (flat_map (λ u. u.invs) (declared_behind (count + length (invariants_of count t.items)) ts))) same (numbered_tables (count + length (invariants_of count t.items)) ts))
 
 pub numbers_of : (tokens rest : List Token) (declarations : List Declaration) → IsRead tokens rest declarations → AreNumbered declarations
-numbers_of tokens rest declarations read = subst AreNumbered (λ i. read.declares (~ i)) (numbered_tables 0 read.tables)
+numbers_of tokens rest declarations read = subst AreNumbered (sym read.declares) (numbered_tables 0 read.tables)
