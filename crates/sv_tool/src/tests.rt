@@ -145,8 +145,8 @@ fn other_documents_are_refused(rt: HostRuntime) -> Result<(), Fail> {
     Ok(())
 }
 
-/// Documents of tables, and what `check` writes of each.
-const CHECKED: [(&str, &str); 22] = [
+/// Documents of tables and transactions, and what `check` writes of each.
+const CHECKED: [(&str, &str); 25] = [
     ("", "refused 1:1 1\n"),
     (
         "@UOSET create table t (id int, n int @NUMDELTA, primary key (id));",
@@ -163,7 +163,19 @@ const CHECKED: [(&str, &str); 22] = [
     ),
     (
         "create table t (id int, primary key (id)); txn",
+        "refused 1:47 1\n",
+    ),
+    (
+        "create table t (id int, primary key (id)); %% init",
         "refused 1:44 1\n",
+    ),
+    (
+        "@UOSET create table acc (id int, n int @NUMDELTA, primary key (id));\ntxn add(k: int, n: int) { update acc[k] set n = old.n + n; }\ntxn look(k: int) { get r = acc[k]; reply r.n; }",
+        "ok 1 2 0\n",
+    ),
+    (
+        "@UOSET create table t (id int, n int @NUMDELTA, primary key (id));\ntxn cut(k: int) { remove t[k]; }",
+        "refused 2:26 4\n",
     ),
     (
         "create table t (id int, primary key (id), unique (id));",
