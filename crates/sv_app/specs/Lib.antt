@@ -5,6 +5,7 @@ pub mod Codes
 pub mod Conditions
 pub mod Depths
 pub mod Firsts
+pub mod Fitting
 pub mod Kinds
 pub mod Lookups
 pub mod Numbers

@@ -2,15 +2,13 @@
 -- columns outside the key, each at most once and in order, counters by deltas and others by values of their type; a remove writes none, an insert all.
 use Rattle.std.specs.Prelude.{◌≡◌, ◌≢◌, ℕ, ℤ, pos, neg_ℤ, ◌^◌, ◌≤ℤ◌, ◌<◌, ◌≤◌, ◌==◌, ◌||◌, Bool, true, false, List, [], ◌∷◌, length, map, Some, slice_get}
 use Rattle.sv_value.specs.declared.values.Val.{Val}
-use Rattle.sv_value.specs.declared.values.Val.TheVariants.{Int, Text as IsText}
 use Rattle.sv_app.specs.declared.acts.Act.{Act}
 use Rattle.sv_app.specs.declared.acts.Act.TheVariants.{Insert, Update, Remove}
 use Rattle.sv_app.specs.declared.apps.Ident.{Ident}
 use Rattle.sv_app.specs.declared.schemas.Column.{Column}
 use Rattle.sv_app.specs.declared.schemas.Merge.TheVariants.{NumDelta, Lww}
 use Rattle.sv_app.specs.declared.schemas.Merge.TheVariants as merges
-use Rattle.sv_app.specs.declared.schemas.Ty.{Ty}
-use Rattle.sv_app.specs.declared.schemas.Ty.TheVariants as types
+pub use Rattle.sv_app.specs.Fitting.{HasType}
 use Rattle.sv_app.specs.Kinds.{allows}
 use Rattle.sv_app.specs.Schema.{Declaration}
 use Rattle.sv_effect.specs.declared.cells.Cell.{Cell}
@@ -20,11 +18,6 @@ use Rattle.sv_effect.specs.declared.ops.Write.TheVariants.{Delta, Set}
 use Rattle.sv_effect.specs.declared.ops.RowEffect.{RowEffect}
 use Rattle.sv_effect.specs.declared.ops.Op.{Op}
 use Rattle.sv_effect.specs.RowChange.{key_values}
-
-abbrev pub HasType : Ty → Val → Type 0
-HasType types.Int (Int n) = Unit {0}
-HasType types.Text (IsText t) = Unit {0}
-HasType _ _ = ⊥
 
 -- the values are of the columns that the key names, in order
 abbrev pub KeyFits : List Column → List Ident → List Val → Type 0

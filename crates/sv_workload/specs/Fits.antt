@@ -2,10 +2,7 @@
 use Rattle.std.specs.Prelude.{List, [], ◌∷◌, Option}
 use Rattle.std.specs.List.{find}
 use Rattle.sv_app.specs.declared.apps.Ident.{Ident}
-use Rattle.sv_app.specs.declared.requests.Arg.{Arg}
-use Rattle.sv_app.specs.declared.requests.Arg.TheVariants as args
-use Rattle.sv_app.specs.declared.schemas.Ty.{Ty}
-use Rattle.sv_app.specs.declared.schemas.Ty.TheVariants as types
+pub use Rattle.sv_app.specs.Fitting.{ArgFits, ArgsFit}
 use Rattle.sv_app.specs.Lookups.{is_named}
 use Rattle.sv_app.specs.Schema.{Declaration}
 use Rattle.sv_app.specs.Trees.{Transaction}
@@ -15,17 +12,6 @@ use Rattle.sv_workload.specs.declared.written.Call.{Call}
 
 abbrev pub RowFits : Declaration → Row → Type 0
 RowFits table r = ValuesFit table.columns r.values
-
-abbrev pub ArgFits : Ty → Arg → Type 0
-ArgFits types.Int (args.Int n) = Unit {0}
-ArgFits types.Text (args.Text bytes) = Unit {0}
-ArgFits types.Ints (args.Ints ns) = Unit {0}
-ArgFits _ _ = ⊥
-
-abbrev pub ArgsFit : List (Ident × Ty) → List Arg → Type 0
-ArgsFit [] [] = Unit {0}
-ArgsFit (param ∷ params) (arg ∷ more) = ArgFits param.1 arg × ArgsFit params more
-ArgsFit _ _ = ⊥
 
 abbrev pub CallFits : Transaction → Call → Type 0
 CallFits txn c = ArgsFit txn.params c.args
