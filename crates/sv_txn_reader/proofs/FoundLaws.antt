@@ -15,7 +15,7 @@ use Rattle.sv_schema_reader.proofs.KindLaws.{kind_is, kind_same}
 use Rattle.sv_txn_reader.specs.Grammar.{transactions}
 use Rattle.sv_txn_reader.specs.Reading.{begins_txn, txns_at, IsLeft}
 use Rattle.sv_txn_reader.specs.Refused.{Begins, BeginsWithin, IsRefused, BeginsTxn, AreRead}
-use Rattle.sv_txn_reader.proofs.Laws.{Alike, alike_same, Opens, Passes, Stuck, Cause, Misplaced, TooMany, Reads, same_read}
+use Rattle.sv_txn_reader.proofs.Laws.{Alike, alike_same, Opens, Passes, Stuck, Cause, Misplaced, TooMany, Reads, Same, same_read}
 use Rattle.sv_txn_reader.proofs.LimitLaws.{places}
 use Rattle.sv_txn_reader.proofs.TxnLaws.{txns_law, txns_stop}
 
@@ -158,3 +158,15 @@ refused_none tokens ts rest fault e are = by_late (not_read ts tokens rest fault
             let code : s.code ≡ Many = sym (ap (λ (f : Fault). f.code) s.place) ∙ late.0 in
             let left : fault.left ≡ length s.rest = ap (λ (f : Fault). f.left) s.place in
             by_cause s.front s.rest s.code code (let few = late.1 in omega (arith, left, few)) s.cause
+
+-- transactions are read in one way
+pub read_once : (tokens : List Token) (ts us : List Transaction) (rest last : List Token) → AreRead ts tokens rest → AreRead us tokens last → Same ts us rest last
+read_once tokens ts us rest last first second = by_read (txns_at tokens) refl
+  where
+    sure : (read : List Transaction × List Token) → txns_at tokens ≡ Ok read → (fault : Fault) → txns_at tokens ≡ Err fault → ⊥
+    sure read e fault f = let bad : ◌≡◌ {A = Read (List Transaction)} (Ok read) (Err fault) = sym e ∙ f in absurd cc
+    by_read : (read : Read (List Transaction)) → txns_at tokens ≡ read → Same ts us rest last
+    by_read (Err fault) e = absurd (refused_none tokens ts rest fault e first)
+    by_read (Ok read) e =
+        same_read (sym (never_late (txns_at tokens) ts rest (txns_law.all 0 ts tokens rest first.is (no_txn rest first.ends)) (sure read e))
+        ∙ never_late (txns_at tokens) us last (txns_law.all 0 us tokens last second.is (no_txn last second.ends)) (sure read e))
