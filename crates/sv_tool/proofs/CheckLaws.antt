@@ -1,4 +1,4 @@
--- Tables and transactions that were read meet the conditions of acceptance, and what comes of their tokens.
+-- Tables that were read meet the conditions of acceptance, and what comes of the tokens of a document.
 use Rattle.std.proofs.Common.{◌≡◌, ◌∙◌, ℕ, zero, suc, ◌+◌, ◌-◌, ◌≤◌, ◌<◌, true, nat_lt, cond, List, [], ◌∷◌, ◌++◌, length, map, ◌*◌, take, drop, Option, Some, None, Result, Ok, Err, IfOk, IfSome, MatchOption, refl, sym, ap, subst, arith, append-nil}
 use Rattle.std.specs.List.{All, AllByRecursion, flat_map}
 use Rattle.std.proofs.lemmas.List.Elements.{All-nil, All-cons, All-head, All-tail}
@@ -29,8 +29,12 @@ use Rattle.sv_schema_reader.specs.Limits.{IsSmallRule, IsSmallItem, IsSmallTable
 use Rattle.sv_schema_reader.specs.Refused.{BeginsTable, IsRead, IsAnswer}
 use Rattle.sv_txn_reader.specs.Refused.{AreRead}
 use Rattle.sv_txn_reader.specs.Refused as txn_reader
+use Rattle.sv_txn_reader.proofs.FoundLaws.{read_once}
 use Rattle.sv_typing.proofs.PlaceLaws.{never_both}
-use Rattle.sv_tool.specs.CheckText.{early_refusal, AreBehind, AreAccepted, IsLater, IsRefusalBehind, Later, IsRefusal, Behind, Sizes, sizes_of, sizes_in, IsAcceptedAs, IsDocument, code_of, accepted_with, refused_with, IsCheckAnswer, Accepts, Long, Faulty, Refuses}
+use Rattle.sv_workload.specs.declared.parts.Parts.{Parts}
+use Rattle.sv_workload.specs.Documents.{AreParts}
+use Rattle.sv_workload.specs.Documents as workload
+use Rattle.sv_tool.specs.CheckText.{AreWhole, AreBehind, AreAccepted, IsLater, InParts, IsRefusalBehind, IsRefusal, Behind, Sizes, sizes_of, sizes_in, IsAcceptedAs, IsDocument, code_of, accepted_with, refused_with, IsCheckAnswer, Accepts, Long, Faulty, Refuses}
 use Rattle.sv_tool.specs.Answer.{Answer, at_the_front, form_answer, form_among}
 use Rattle.sv_tool.specs.Commands.{IsAnswerOf}
 use Rattle.sv_tool.specs.declared.words.Command.{Command}
@@ -108,61 +112,55 @@ pub sizes_by : (app : App) (declarations : List Declaration) (txns : List Transa
     → sizes_in app ≡ sizes_of declarations txns
 sizes_by app declarations txns tables are = (λ i. sizes_of (tables i) (are i)) ∙ numbered_sizes declarations txns
 
--- what accepts says of the tables and transactions is said of their sizes
-pub accepted_sizes : (result : Result App Stop) (declarations : List Declaration) (txns : List Transaction) → IfOk result (λ app. schema_of app.tables.items ≡ numbered declarations)
-    → IfOk result (λ app. transactions_of app.txns.items ≡ numbered_txns declarations txns) → IfOk result (λ app. sizes_in app ≡ sizes_of declarations txns)
-accepted_sizes (Ok app) declarations txns tables are = sizes_by app declarations txns tables are
-accepted_sizes (Err stop) declarations txns tables are = tt
+-- the parts of an accepted application
+module _ (declarations applied : List Declaration) (txns numbers : List Transaction) (rest : List Token) where
+  parts_there : applied ≡ numbered declarations → numbers ≡ numbered_txns declarations txns → (parts : Parts) → AreParts applied numbers rest parts
+      → AreParts (numbered declarations) (numbered_txns declarations txns) rest parts
+  parts_there tables are parts x = subst (λ (p : List Declaration × List Transaction). AreParts p.0 p.1 rest parts) (λ i. (tables i, are i)) x
 
-pub accepted_as : (result : Result App Stop) (declarations : List Declaration) (txns : List Transaction) → IfOk result (λ app. schema_of app.tables.items ≡ numbered declarations)
-    → IfOk result (λ app. transactions_of app.txns.items ≡ numbered_txns declarations txns)
-    → ((refusal : Refusal) → result ≡ Err (Refused refusal) → IsUnaccepted declarations txns refusal) → IsAccepted declarations txns → IsAcceptedAs result (sizes_of declarations txns)
-accepted_as (Ok app) declarations txns tables are refused accepted = sizes_by app declarations txns tables are
-accepted_as (Err (Refused refusal)) declarations txns tables are refused accepted = never_both declarations txns refusal accepted (refused refusal refl)
-accepted_as (Err NoMemory) declarations txns tables are refused accepted = tt
+  parts_here : applied ≡ numbered declarations → numbers ≡ numbered_txns declarations txns → (parts : Parts) → AreParts (numbered declarations) (numbered_txns declarations txns) rest parts
+      → AreParts applied numbers rest parts
+  parts_here tables are parts x = subst (λ (p : List Declaration × List Transaction). AreParts p.0 p.1 rest parts) (λ i. (sym tables i, sym are i)) x
 
--- where nothing refuses early, no token is left
-none_behind : (declarations : List Declaration) (rest : List Token) → early_refusal declarations rest ≡ None → rest ≡ []
-none_behind declarations [] e = refl
-none_behind declarations (token ∷ rest) e = absurd cc
+  pub whole_read : (parts : Parts) → IsAccepted declarations txns → applied ≡ numbered declarations → numbers ≡ numbered_txns declarations txns → AreParts applied numbers rest parts
+      → AreWhole declarations txns rest
+  whole_read parts accepted tables are x = record { accepted = accepted; parts = parts; behind = parts_there tables are parts x }
 
--- the slice behind a place
-pub rest_is : (tokens : List Token) (at : ℕ) → take (length tokens - at) (drop at tokens) ≡ drop at tokens
-rest_is tokens at = ap (λ n. take n (drop at tokens)) (sym (length-drop at tokens)) ∙ take-length (drop at tokens)
+  pub parts_refused : (end : Spot) (refusal : Refusal) → IsAccepted declarations txns → applied ≡ numbered declarations → numbers ≡ numbered_txns declarations txns
+      → workload.IsRefused applied numbers rest end refusal → IsLater declarations txns rest end refusal
+  parts_refused end refusal accepted tables are x = InParts accepted (subst (λ (p : List Declaration × List Transaction). workload.IsRefused p.0 p.1 rest end refusal) (λ i. (tables i, are i)) x)
+
+  pub unread_parts : (stop : Stop) → applied ≡ numbered declarations → numbers ≡ numbered_txns declarations txns → ((parts : Parts) → AreParts applied numbers rest parts → workload.IsAnswer (Err stop) parts)
+      → AreWhole declarations txns rest → IsAcceptedAs (Err stop) (sizes_of declarations txns)
+  unread_parts (Refused refusal) tables are all whole = all whole.parts (parts_here tables are whole.parts whole.behind)
+  unread_parts NoMemory tables are all whole = tt
+
+pub unaccepted_as : (stop : Stop) (declarations : List Declaration) (txns : List Transaction) (rest : List Token) → ((refusal : Refusal) → ◌≡◌ {A = Result App Stop} (Err stop) (Err (Refused refusal)) → IsUnaccepted declarations txns refusal)
+    → AreWhole declarations txns rest → IsAcceptedAs (Err stop) (sizes_of declarations txns)
+unaccepted_as (Refused refusal) declarations txns rest refused whole = never_both declarations txns refusal whole.accepted (refused refusal refl)
+unaccepted_as NoMemory declarations txns rest refused whole = tt
 
 -- transactions behind tables
-pub accepted_behind : (result : Result App Stop) (declarations : List Declaration) (txns : List Transaction) (tokens behind rest : List Token) → rest ≡ behind → AreRead txns tokens behind
-    → IfOk result (λ app. early_refusal declarations rest ≡ None) → IfOk result (λ app. IsAccepted declarations txns) → IfOk result (λ app. sizes_in app ≡ sizes_of declarations txns)
+pub accepted_behind : (result : Result App Stop) (declarations : List Declaration) (txns : List Transaction) (tokens behind : List Token) → AreRead txns tokens behind
+    → IfOk result (λ app. AreWhole declarations txns behind) → IfOk result (λ app. sizes_in app ≡ sizes_of declarations txns)
     → IfOk result (λ app. (x : List Transaction) × AreBehind declarations tokens x × (sizes_in app ≡ sizes_of declarations x))
-accepted_behind (Ok app) declarations txns tokens behind rest is read plain accepted sizes =
-    let none : rest ≡ [] = none_behind declarations rest plain in
-    (txns, record { read = subst (AreRead txns tokens) (sym is ∙ none) read; plain = ap (early_refusal declarations) (sym none) ∙ plain; accepted = accepted }, sizes)
-accepted_behind (Err stop) declarations txns tokens behind rest is read plain accepted sizes = tt
+accepted_behind (Ok app) declarations txns tokens behind read whole sizes = (txns, record { rest = behind; read = read; whole = whole }, sizes)
+accepted_behind (Err stop) declarations txns tokens behind read whole sizes = tt
 
-pub refused_behind : (declarations : List Declaration) (txns : List Transaction) (tokens behind rest : List Token) (end : Spot) (refusal : Refusal) → rest ≡ behind → AreRead txns tokens behind
-    → IsLater declarations txns rest refusal → IsRefusalBehind declarations tokens end refusal
-refused_behind declarations txns tokens behind rest end refusal is read later = Later txns behind read (subst (λ l. IsLater declarations txns l refusal) is later)
+pub all_behind : (result : Result App Stop) (declarations : List Declaration) (tokens behind : List Token) (found txns : List Transaction) → AreRead found tokens behind
+    → (AreWhole declarations found behind → IsAcceptedAs result (sizes_of declarations found)) → AreBehind declarations tokens txns → IsAcceptedAs result (sizes_of declarations txns)
+all_behind result declarations tokens behind found txns read accepts b =
+    let same = read_once tokens found txns behind b.rest read b.read in
+    subst (λ (x : List Transaction). IsAcceptedAs result (sizes_of declarations x)) same.item
+    (accepts (subst (λ (p : List Transaction × List Token). AreWhole declarations p.0 p.1) (λ i. (sym same.item i, sym same.rests i)) b.whole))
 
 -- a reader that reads the transactions that there are
 abbrev ReadsTxns : List Token → (List Transaction → ℕ → Type 0) → ℕ → Type 0
 ReadsTxns tokens Answers n = (txns : List Transaction) (rest : List Token) → AreRead txns tokens rest → Answers txns (n - length rest)
 
-pub all_behind : (result : Result App Stop) (declarations : List Declaration) (whole tokens : List Token) (place : ℕ) (rest : List Token) (found txns : List Transaction) → rest ≡ drop place whole
-    → ReadsTxns tokens (λ x at. (found ≡ x) × (place ≡ at)) (length whole)
-    → (early_refusal declarations rest ≡ None → IsAccepted declarations found → IsAcceptedAs result (sizes_of declarations found)) → AreBehind declarations tokens txns
-    → IsAcceptedAs result (sizes_of declarations txns)
-all_behind result declarations whole tokens place rest found txns is all accepts b =
-    let answer = all txns [] b.read in
-    let none : rest ≡ [] = is ∙ ap (λ n. drop n whole) (answer.1 ∙ nothing_less (length whole)) ∙ drop-length whole in
-    let early : early_refusal declarations rest ≡ None = ap (early_refusal declarations) none ∙ b.plain in
-    subst (λ (x : List Transaction). IsAcceptedAs result (sizes_of declarations x)) answer.0 (accepts early (subst (IsAccepted declarations) (sym answer.0) b.accepted))
-  where
-    nothing_less : (n : ℕ) → n - 0 ≡ n
-    nothing_less n = omega arith
-
 pub unread_behind : (stop : Stop) (declarations : List Declaration) (tokens : List Token) (n : ℕ) (txns : List Transaction) → ReadsTxns tokens (txn_reader.IsAnswer (Err stop)) n → AreBehind declarations tokens txns
     → IsAcceptedAs (Err stop) (sizes_of declarations txns)
-unread_behind (Refused refusal) declarations tokens n txns all b = all txns [] b.read
+unread_behind (Refused refusal) declarations tokens n txns all b = all txns b.rest b.read
 unread_behind NoMemory declarations tokens n txns all b = tt
 
 from_zero : (at : ℕ) → at - 0 ≡ at

@@ -1,8 +1,7 @@
--- What `check` answers to the bytes of a document of tables and transactions: `ok` with the numbers of its tables, transactions and invariants, or its
--- refusal. Refusals come in this order: too many bytes, tokens, tables, transactions, a token behind them, a table with an invariant, names and types, cycles.
-use Rattle.std.specs.Prelude.{◌≡◌, ℕ, ◌<◌, ◌≤◌, Bool, true, false, not, List, [], ◌∷◌, ◌++◌, length, Option, Some, None, Result, Ok, Err, codes}
-use Rattle.std.specs.Option.{option_map}
-use Rattle.std.specs.List.{find, flat_map}
+-- What `check` answers to the bytes of a document: `ok` with the numbers of its tables, transactions and invariants, or its refusal. Refusals come in this
+-- order: too many bytes, tokens, tables, transactions, names and types, cycles, checks that no row meets, initial rows, and the last part.
+use Rattle.std.specs.Prelude.{◌≡◌, ℕ, ◌<◌, ◌≤◌, List, [], ◌∷◌, ◌++◌, length, Result, Ok, Err, codes}
+use Rattle.std.specs.List.{flat_map}
 use Rattle.std.specs.Fmt.{decimal}
 use Rattle.sv_io.specs.Flows.{most_bytes}
 use Rattle.sv_value.specs.declared.spots.Spot.{Spot}
@@ -17,11 +16,16 @@ use Rattle.sv_app.specs.declared.refusals.Refusal.{Refusal}
 use Rattle.sv_app.specs.declared.refusals.Stop.{Stop}
 use Rattle.sv_app.specs.declared.refusals.Stop.TheVariants.{Refused as Refuse, NoMemory}
 use Rattle.sv_app.specs.Acceptance.{IsAccepted, IsRefused as IsUnaccepted}
+use Rattle.sv_app.specs.Numbers.{numbered}
 use Rattle.sv_app.specs.Schema.{Declaration, schema_of}
 use Rattle.sv_app.specs.Trees.{Transaction, transactions_of}
+use Rattle.sv_app.specs.TxnNumbers.{numbered_txns}
 use Rattle.sv_schema_reader.specs.Refused.{IsRefused, IsRead}
 use Rattle.sv_txn_reader.specs.Refused.{AreRead}
 use Rattle.sv_txn_reader.specs.Refused as txns
+use Rattle.sv_workload.specs.declared.parts.Parts.{Parts}
+use Rattle.sv_workload.specs.Documents.{AreParts}
+use Rattle.sv_workload.specs.Documents as parts
 use Rattle.sv_tool.specs.declared.statuses.Status.TheVariants.{Done, Refused}
 use Rattle.sv_tool.specs.Answer.{Answer, at_the_front}
 use Rattle.sv_tool.specs.Lines.{refusal_line}
@@ -36,25 +40,19 @@ code_of (LongNumber at) = Many
 code_of (LongText at) = Many
 code_of (LongName at) = Many
 
-abbrev pub has_none : {A : Type 0} → List A → Bool
-has_none [] = true
-has_none (a ∷ rest) = false
+-- the application is accepted, and the tokens behind its transactions are parts of which nothing is refused
+pub record AreWhole (schema : List Declaration) (transactions : List Transaction) (rest : List Token) : Type 0 where
+  pub accepted : IsAccepted schema transactions
+  pub parts : Parts
+  pub behind : AreParts (numbered schema) (numbered_txns schema transactions) rest parts
 
-abbrev pub has_invariant : Declaration → Bool
-has_invariant table = not (has_none table.invs)
-
--- what refuses tables and transactions before their names and types are looked at: a token behind them, else an invariant, at the name of its table
-abbrev pub early_refusal : List Declaration → List Token → Option Refusal
-early_refusal schema (token ∷ rest) = Some (record { spot = token.spot; code = Syntax })
-early_refusal schema [] = option_map (λ table. record { spot = table.name.spot; code = Syntax }) (find has_invariant schema)
-
--- tokens of transactions that are accepted with these tables before them
+-- tokens of transactions and parts that are accepted with these tables before them
 pub record AreBehind (schema : List Declaration) (tokens : List Token) (txns : List Transaction) : Type 0 where
-  pub read : AreRead txns tokens []
-  pub plain : early_refusal schema [] ≡ None
-  pub accepted : IsAccepted schema txns
+  pub rest : List Token
+  pub read : AreRead txns tokens rest
+  pub whole : AreWhole schema txns rest
 
--- tokens of tables and transactions that are accepted
+-- tokens of tables, transactions and parts that are accepted
 pub record AreAccepted (tokens : List Token) (schema : List Declaration) (txns : List Transaction) : Type 0 where
   pub front : List Token
   pub rest : List Token
@@ -62,15 +60,15 @@ pub record AreAccepted (tokens : List Token) (schema : List Declaration) (txns :
   pub tables : IsRead front rest schema
   pub behind : AreBehind schema rest txns
 
--- why tables and transactions are refused that were read, with these tokens behind them
-pub data IsLater (schema : List Declaration) (transactions : List Transaction) (rest : List Token) (refusal : Refusal) : Type 0 where
-  Early : early_refusal schema rest ≡ Some refusal → IsLater schema transactions rest refusal
-  Unaccepted : early_refusal schema rest ≡ None → IsUnaccepted schema transactions refusal → IsLater schema transactions rest refusal
+-- why tables and transactions are refused that were read, or the tokens behind them, where the document ends there
+pub data IsLater (schema : List Declaration) (transactions : List Transaction) (rest : List Token) (end : Spot) (refusal : Refusal) : Type 0 where
+  Unaccepted : IsUnaccepted schema transactions refusal → IsLater schema transactions rest end refusal
+  InParts : IsAccepted schema transactions → parts.IsRefused (numbered schema) (numbered_txns schema transactions) rest end refusal → IsLater schema transactions rest end refusal
 
 -- why tokens behind these tables are refused
 pub data IsRefusalBehind (schema : List Declaration) (tokens : List Token) (end : Spot) (refusal : Refusal) : Type 0 where
   UnreadTxns : txns.IsRefused tokens end refusal → IsRefusalBehind schema tokens end refusal
-  Later : (transactions : List Transaction) (rest : List Token) → AreRead transactions tokens rest → IsLater schema transactions rest refusal → IsRefusalBehind schema tokens end refusal
+  Later : (transactions : List Transaction) (rest : List Token) → AreRead transactions tokens rest → IsLater schema transactions rest end refusal → IsRefusalBehind schema tokens end refusal
 
 -- why tokens are refused, where the document ends there
 pub data IsRefusal (tokens : List Token) (end : Spot) (refusal : Refusal) : Type 0 where
@@ -99,7 +97,7 @@ IsAcceptedAs (Err NoMemory) sizes = Unit {0}
 abbrev pub ok_line : Sizes → List ℕ
 ok_line sizes = codes "ok " ++ decimal sizes.tables ++ codes " " ++ decimal sizes.txns ++ codes " " ++ decimal sizes.invariants ++ codes "\n"
 
--- the bytes are a document of accepted tables and transactions
+-- the bytes are a document of accepted tables, transactions and parts
 pub record IsDocument (bytes : List ℕ) (schema : List Declaration) (transactions : List Transaction) : Type 0 where
   pub short : length bytes ≤ most_bytes
   pub tokens : List Token

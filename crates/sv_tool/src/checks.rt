@@ -1,17 +1,16 @@
-ghost use Rattle.std.specs.Prelude.{◌≡◌, ◌≤◌, [], List, None, Err, IfOk, MatchOption, length, drop};
+ghost use Rattle.std.specs.Prelude.{◌≡◌, ◌≤◌, List, Err, IfOk, MatchOption, length, drop};
 ghost use Rattle.std.specs.List.{flat_map};
 ghost use Rattle.sv_io.specs.Flows.{most_bytes};
 ghost use Rattle.sv_app.specs.declared.refusals.Refusal.{Refusal as RefusalValue};
 ghost use Rattle.sv_app.specs.declared.refusals.Stop.TheVariants.{Refused, NoMemory as Ends};
-ghost use Rattle.sv_app.specs.Schema.{Declaration, declaration_of, schema_of};
+ghost use Rattle.sv_app.specs.Schema.{Declaration, schema_of};
 ghost use Rattle.sv_lex.specs.Lexers.{fault_of};
 ghost use Rattle.sv_lex.specs.Spots.{spot_at};
 ghost use Rattle.sv_lex.specs.Standing.{place_of};
-ghost use Rattle.sv_app.specs.Acceptance.{IsAccepted};
 ghost use Rattle.sv_app.specs.Conditions.{KeepsGrammar, KeepsLimits, AreNumbered};
 ghost use Rattle.sv_app.specs.Trees.{Transaction, transactions_of};
 ghost use Rattle.sv_app.specs.TxnConditions.{KeepsTxnGrammar, KeepsTxnLimits};
-ghost use Rattle.sv_tool.specs.CheckText.{has_invariant, early_refusal, AreBehind, AreAccepted, IsLater, IsRefusalBehind, IsRefusal, sizes_of, sizes_in, IsAcceptedAs, code_of, IsDocument, accepted_with, refused_with, IsCheckAnswer};
+ghost use Rattle.sv_tool.specs.CheckText.{AreWhole, AreBehind, AreAccepted, IsLater, IsRefusalBehind, IsRefusal, sizes_of, sizes_in, IsAcceptedAs, code_of, IsDocument, accepted_with, refused_with, IsCheckAnswer};
 ghost use Rattle.sv_tool.specs.ReadDocument.{said_by};
 
 use crate::answers::{Answer, refusal_answer};
@@ -24,74 +23,39 @@ use sv_schema_reader::read_schema;
 use sv_txn_reader::read_txns;
 use sv_typing::accept;
 use sv_value::{NoMemory, Spot};
+use sv_workload::read_parts;
 
-fn has_invariant(table: &Table) -> bool
-    ensures { result ≡ has_invariant (declaration_of table.now) }
-{
-    !table.invs.is_empty()
-}
-
-/// The refusal at the name of the first table that has an invariant.
-fn invariant_refusal(tables: &[Table]) -> Option<Refusal>
-    ensures { result ≡ early_refusal (schema_of tables.now) [] }
-{
-    match tables {
-        [] => None,
-        [table, others @ ..] => {
-            if has_invariant(table) {
-                Some(Refusal {
-                    spot: table.name.spot,
-                    code: Code::Syntax,
-                })
-            } else {
-                invariant_refusal(others)
-            }
-        }
-    }
-}
-
-/// What refuses tables and transactions before their names and types are looked at: a token behind them, or else an
-/// invariant.
-fn early_refusal(tables: &[Table], rest: &[Token]) -> Option<Refusal>
-    ensures { result ≡ early_refusal (schema_of tables.now) rest.now }
-{
-    match rest {
-        [token, ..] => Some(Refusal {
-            spot: token.spot,
-            code: Code::Syntax,
-        }),
-        [] => invariant_refusal(tables),
-    }
-}
-
-/// The application of tables and transactions that were read, with these tokens behind them.
+/// The application of tables and transactions that were read, where the tokens from the place on are its parts.
 fn accept_read(
     alloc: Global,
     tables: Vec<Table>,
     txns: Vec<Txn>,
-    rest: &[Token],
+    tokens: &[Token],
+    end: Spot,
+    at: usize,
 ) -> Result<App, Stop>
+    requires place { at ≤ length tokens.now }
     requires grammar { KeepsGrammar (schema_of tables.items) }
     requires limits { KeepsLimits (schema_of tables.items) }
     requires invariants { AreNumbered (schema_of tables.items) }
     requires txn_grammar { KeepsTxnGrammar (transactions_of txns.items) }
     requires txn_limits { KeepsTxnLimits (transactions_of txns.items) }
-    ensures plain { IfOk result (λ app. early_refusal (schema_of tables.items) rest.now ≡ None) }
-    ensures accepted { IfOk result (λ app. IsAccepted (schema_of tables.items) (transactions_of txns.items)) }
+    ensures whole { IfOk result (λ app. AreWhole (schema_of tables.items) (transactions_of txns.items) (drop at tokens.now)) }
     ensures sizes { IfOk result (λ app. sizes_in app ≡ sizes_of (schema_of tables.items) (transactions_of txns.items)) }
-    ensures refused { (refusal : RefusalValue) → result ≡ Err (Refused refusal) → IsLater (schema_of tables.items) (transactions_of txns.items) rest.now refusal }
-    ensures all { early_refusal (schema_of tables.items) rest.now ≡ None → IsAccepted (schema_of tables.items) (transactions_of txns.items)
-        → IsAcceptedAs result (sizes_of (schema_of tables.items) (transactions_of txns.items)) }
+    ensures refused { (refusal : RefusalValue) → result ≡ Err (Refused refusal) → IsLater (schema_of tables.items) (transactions_of txns.items) (drop at tokens.now) end refusal }
+    ensures all { AreWhole (schema_of tables.items) (transactions_of txns.items) (drop at tokens.now) → IsAcceptedAs result (sizes_of (schema_of tables.items) (transactions_of txns.items)) }
 {
-    let refusal = early_refusal(&tables, rest);
-    match refusal {
-        Some(refusal) => Err(Stop::Refused(refusal)),
-        None => accept(alloc, tables, txns),
+    match accept(alloc, tables, txns) {
+        Ok(app) => match read_parts(alloc, &app, tokens, end, at) {
+            Ok(_) => Ok(app),
+            Err(stop) => Err(stop),
+        },
+        Err(stop) => Err(stop),
     }
 }
 
-/// The application of these tables and the tokens from the place on, which must be transactions, up to the end of the
-/// document.
+/// The application of these tables and the tokens from the place on, which must be transactions and parts, up to the
+/// end of the document.
 fn check_behind(
     alloc: Global,
     tables: Vec<Table>,
@@ -108,12 +72,12 @@ fn check_behind(
     ensures all { (txns : List Transaction) → AreBehind (schema_of tables.items) (drop at tokens.now) txns → IsAcceptedAs result (sizes_of (schema_of tables.items) txns) }
 {
     match read_txns(alloc, tokens, end, at) {
-        Ok((txns, behind)) => accept_read(alloc, tables, txns, &tokens[behind..]),
+        Ok((txns, behind)) => accept_read(alloc, tables, txns, tokens, end, behind),
         Err(stop) => Err(stop),
     }
 }
 
-/// The application of these tokens, which must be tables and transactions, up to the end of the document.
+/// The application of these tokens, which must be tables, transactions and parts, up to the end of the document.
 pub fn check_tokens(alloc: Global, tokens: &[Token], end: Spot) -> Result<App, Stop>
     ensures accepted { IfOk result (λ app. (schema : List Declaration) × (txns : List Transaction) × AreAccepted tokens.now schema txns × (sizes_in app ≡ sizes_of schema txns)) }
     ensures refused { (refusal : RefusalValue) → result ≡ Err (Refused refusal) → IsRefusal tokens.now end refusal }
@@ -163,7 +127,7 @@ fn stop_of(bytes: &[u8], stop: LexStop) -> Stop
     }
 }
 
-/// The application of a document of tables and transactions.
+/// The application of a document.
 #[tactic(auto, using(crate::proofs::CheckLaws::documents))]
 fn check_bytes(alloc: Global, bytes: &[u8]) -> Result<App, Stop>
     requires { length bytes.now ≤ most_bytes }

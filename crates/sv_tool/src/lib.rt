@@ -4,6 +4,8 @@
 mod answers;
 mod checks;
 mod laws;
+#[cfg(test)]
+mod part_tests;
 mod reader_checks;
 mod reader_laws;
 mod reader_parts;

@@ -145,8 +145,8 @@ fn other_documents_are_refused(rt: HostRuntime) -> Result<(), Fail> {
     Ok(())
 }
 
-/// Documents of tables and transactions, and what `check` writes of each.
-const CHECKED: [(&str, &str); 25] = [
+/// Documents, and what `check` writes of each.
+const CHECKED: [(&str, &str); 35] = [
     ("", "refused 1:1 1\n"),
     (
         "@UOSET create table t (id int, n int @NUMDELTA, primary key (id));",
@@ -167,7 +167,7 @@ const CHECKED: [(&str, &str); 25] = [
     ),
     (
         "create table t (id int, primary key (id)); %% init",
-        "refused 1:44 1\n",
+        "ok 1 0 0\n",
     ),
     (
         "@UOSET create table acc (id int, n int @NUMDELTA, primary key (id));\ntxn add(k: int, n: int) { update acc[k] set n = old.n + n; }\ntxn look(k: int) { get r = acc[k]; reply r.n; }",
@@ -179,7 +179,7 @@ const CHECKED: [(&str, &str); 25] = [
     ),
     (
         "create table t (id int, primary key (id), unique (id));",
-        "refused 1:14 1\n",
+        "refused 1:51 5\n",
     ),
     ("create table t (id int);", "refused 1:14 5\n"),
     (
@@ -235,10 +235,50 @@ const CHECKED: [(&str, &str); 25] = [
         "refused 1:38 6\n",
     ),
     ("# no table\n", "refused 2:1 1\n"),
+    (
+        "@AUSET create table item (id int, stock int @NUMDELTA, price int @LWW,\n  primary key (id), check (stock >= 0), check (price >= 1));\ntxn restock(k: int, n: int) { if n < 0 { abort 1; } update item[k] set stock = old.stock + n; }\ntxn buy(k: int, n: int) { if n <= 0 { abort 1; } update item[k] set stock = old.stock - n; }\ntxn reprice(k: int, p: int) { update item[k] set price = p; }\ntxn add(k: int, n: int, p: int) { insert item (k, n, p); }\ntxn look(k: int) { get r = item[k]; reply r.stock; reply r.price; }\n",
+        "ok 1 5 2\n",
+    ),
+    (
+        "@UOSET create table acc (id int, n int @NUMDELTA, primary key (id));\ntxn add(k: int, n: int) { update acc[k] set n = old.n + n; }\ntxn look(k: int) { get r = acc[k]; reply r.n; }\n%% replay sites=9",
+        "refused 4:17 6\n",
+    ),
+    (
+        "@UOSET create table t (id int, a int @NUMDELTA, b int @NUMDELTA, primary key (id), check (a <= b), check (b <= a - 1));",
+        "refused 1:21 8\n",
+    ),
+    (
+        "@UOSET create table t (id int, n int @NUMDELTA, primary key (id), check (n >= 0));\n%% init t(1, -1);",
+        "refused 2:9 9\n",
+    ),
+    (
+        "@UOSET create table t (id int, n int @NUMDELTA, primary key (id));\ntxn p(n: int) { if n < 0 { } if n < 0 { } if n < 0 { } if n < 0 { } if n < 0 { } if n < 0 { } if n < 0 { } if n < 0 { } if n < 0 { } if n < 0 { } }",
+        "ok 1 1 0\n",
+    ),
+    (
+        "@AUSET create table item (id int, stock int @NUMDELTA, price int @LWW,\n  primary key (id), check (stock >= 0), check (price >= 1));\ntxn restock(k: int, n: int) { if n < 0 { abort 1; } update item[k] set stock = old.stock + n; }\ntxn buy(k: int, n: int) { if n <= 0 { abort 1; } update item[k] set stock = old.stock - n; }\ntxn reprice(k: int, p: int) { update item[k] set price = p; }\ntxn add(k: int, n: int, p: int) { insert item (k, n, p); }\ntxn look(k: int) { get r = item[k]; reply r.stock; reply r.price; }\ntxn spread(k: int, ns: ints) { each n in ns { update item[k] set stock = old.stock + n; } }\n%% init item(7, 10, 3);\n%% replay sites=2\nask 1 spread(7, [0, 0, 0, 0, 0, 0, 0, 0, 0, 0, 0, 0, 0, 0, 0, 0, 0, 0, 0, 0, 0, 0, 0, 0, 0, 0, 0, 0, 0, 0, 0, 0, 0, 0, 0, 0, 0, 0, 0, 0, 0, 0, 0, 0, 0, 0, 0, 0, 0, 0, 0, 0, 0, 0, 0, 0, 0, 0, 0, 0, 0, 0, 0, 0]);",
+        "ok 1 6 2\n",
+    ),
+    (
+        "@AUSET create table item (id int, stock int @NUMDELTA, price int @LWW,\n  primary key (id), check (stock >= 0), check (price >= 1));\ntxn restock(k: int, n: int) { if n < 0 { abort 1; } update item[k] set stock = old.stock + n; }\ntxn buy(k: int, n: int) { if n <= 0 { abort 1; } update item[k] set stock = old.stock - n; }\ntxn reprice(k: int, p: int) { update item[k] set price = p; }\ntxn add(k: int, n: int, p: int) { insert item (k, n, p); }\ntxn look(k: int) { get r = item[k]; reply r.stock; reply r.price; }\ntxn spread(k: int, ns: ints) { each n in ns { update item[k] set stock = old.stock + n; } }\n%% init item(7, 10, 3);\n%% replay sites=2\nask 1 spread(7, [0, 0, 0, 0, 0, 0, 0, 0, 0, 0, 0, 0, 0, 0, 0, 0, 0, 0, 0, 0, 0, 0, 0, 0, 0, 0, 0, 0, 0, 0, 0, 0, 0, 0, 0, 0, 0, 0, 0, 0, 0, 0, 0, 0, 0, 0, 0, 0, 0, 0, 0, 0, 0, 0, 0, 0, 0, 0, 0, 0, 0, 0, 0, 0, 0]);",
+        "refused 11:210 6\n",
+    ),
+    (
+        "create table t (id int);\n%% foo",
+        "refused 1:14 5\n",
+    ),
+    (
+        "create table t (id int, n int, primary key (id), check (n <= 3));\ntxn p(n: int) { reply x; }\n%% init t(1, 9);",
+        "refused 2:23 2\n",
+    ),
+    (
+        "create table t (id int, n int, primary key (id), check (n <= 3), check (n >= 4));\n%% init v(1);",
+        "refused 1:14 8\n",
+    ),
 ];
 
 #[test]
-fn documents_of_tables_are_checked(rt: HostRuntime) -> Result<(), Fail> {
+fn documents_are_checked(rt: HostRuntime) -> Result<(), Fail> {
     let alloc = rt.alloc();
     for (document, text) in CHECKED {
         let (status, written) = run(alloc, &["check"], document.as_bytes(), sound(64))?;

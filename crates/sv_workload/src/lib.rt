@@ -11,4 +11,5 @@ mod values;
 mod written;
 
 pub use parts::{Parts, Step, Work};
+pub use reading::read_parts;
 pub use written::{Call, Color, Given, PartHead, Row, Setting, Verb};

@@ -127,7 +127,7 @@ fn read_whole(alloc: Global, app: &App, tokens: &[Token], end: Spot) -> Result<P
 ///
 /// `Refused` with the first refusal of the initial rows; where there is none, with the first row that breaks an
 /// invariant; and where there is none either, with the first refusal of the last part.
-pub(crate) fn read_parts(
+pub fn read_parts(
     alloc: Global,
     app: &App,
     tokens: &[Token],

@@ -1,20 +1,20 @@
 use Rattle.std.proofs.Common.{drop}
 use Rattle.sv_app.specs.Schema.{schema_of}
 use Rattle.sv_app.specs.Trees.{transactions_of}
-use Rattle.sv_tool.proofs.CheckLaws.{rest_is, accepted_behind, refused_behind, all_behind, unread_behind}
+use Rattle.sv_tool.specs.CheckText.{Later}
+use Rattle.sv_tool.proofs.CheckLaws.{accepted_behind, all_behind, unread_behind}
 use Rattle.sv_tool.proofs.checks.check_behind.Goals as goal
 
 pub returns-in-Ok-clause-accepted : goal.returns-in-Ok-clause-accepted
-returns-in-Ok-clause-accepted c = accepted_behind c.accept_read.result (schema_of c.args.tables.items) (transactions_of c.in-Ok.txns.items) (drop c.args.at c.args.tokens.now) (drop c.in-Ok.behind c.args.tokens.now) _
-    (rest_is c.args.tokens.now c.in-Ok.behind) c.in-Ok.ensures.read c.accept_read.ensures.plain c.accept_read.ensures.accepted c.accept_read.ensures.sizes
+returns-in-Ok-clause-accepted c = accepted_behind c.accept_read.result (schema_of c.args.tables.items) (transactions_of c.in-Ok.txns.items) (drop c.args.at c.args.tokens.now) (drop c.in-Ok.behind c.args.tokens.now)
+    c.in-Ok.ensures.read c.accept_read.ensures.whole c.accept_read.ensures.sizes
 
 pub returns-in-Ok-clause-refused : goal.returns-in-Ok-clause-refused
-returns-in-Ok-clause-refused c = λ refusal is. refused_behind (schema_of c.args.tables.items) (transactions_of c.in-Ok.txns.items) (drop c.args.at c.args.tokens.now) (drop c.in-Ok.behind c.args.tokens.now) _ c.args.end refusal
-    (rest_is c.args.tokens.now c.in-Ok.behind) c.in-Ok.ensures.read (c.accept_read.ensures.refused refusal is)
+returns-in-Ok-clause-refused c = λ refusal is. Later (transactions_of c.in-Ok.txns.items) (drop c.in-Ok.behind c.args.tokens.now) c.in-Ok.ensures.read (c.accept_read.ensures.refused refusal is)
 
 pub returns-in-Ok-clause-all : goal.returns-in-Ok-clause-all
-returns-in-Ok-clause-all c = λ txns behind. all_behind c.accept_read.result (schema_of c.args.tables.items) c.args.tokens.now (drop c.args.at c.args.tokens.now) c.in-Ok.behind _ (transactions_of c.in-Ok.txns.items) txns
-    (rest_is c.args.tokens.now c.in-Ok.behind) c.in-Ok.ensures.all c.accept_read.ensures.all behind
+returns-in-Ok-clause-all c = λ txns behind. all_behind c.accept_read.result (schema_of c.args.tables.items) (drop c.args.at c.args.tokens.now) (drop c.in-Ok.behind c.args.tokens.now) (transactions_of c.in-Ok.txns.items) txns
+    c.in-Ok.ensures.read c.accept_read.ensures.all behind
 
 pub returns-in-Err-clause-all : goal.returns-in-Err-clause-all
 returns-in-Err-clause-all c = λ txns behind. unread_behind c.in-Err.stop (schema_of c.args.tables.items) (drop c.args.at c.args.tokens.now) _ txns c.in-Err.ensures.all behind
