@@ -15,6 +15,8 @@ mod reader_steps;
 mod reader_tests;
 mod readers;
 mod replays;
+#[cfg(test)]
+mod rule_tests;
 mod shows;
 mod statuses;
 mod steps;

@@ -263,10 +263,7 @@ const CHECKED: [(&str, &str); 35] = [
         "@AUSET create table item (id int, stock int @NUMDELTA, price int @LWW,\n  primary key (id), check (stock >= 0), check (price >= 1));\ntxn restock(k: int, n: int) { if n < 0 { abort 1; } update item[k] set stock = old.stock + n; }\ntxn buy(k: int, n: int) { if n <= 0 { abort 1; } update item[k] set stock = old.stock - n; }\ntxn reprice(k: int, p: int) { update item[k] set price = p; }\ntxn add(k: int, n: int, p: int) { insert item (k, n, p); }\ntxn look(k: int) { get r = item[k]; reply r.stock; reply r.price; }\ntxn spread(k: int, ns: ints) { each n in ns { update item[k] set stock = old.stock + n; } }\n%% init item(7, 10, 3);\n%% replay sites=2\nask 1 spread(7, [0, 0, 0, 0, 0, 0, 0, 0, 0, 0, 0, 0, 0, 0, 0, 0, 0, 0, 0, 0, 0, 0, 0, 0, 0, 0, 0, 0, 0, 0, 0, 0, 0, 0, 0, 0, 0, 0, 0, 0, 0, 0, 0, 0, 0, 0, 0, 0, 0, 0, 0, 0, 0, 0, 0, 0, 0, 0, 0, 0, 0, 0, 0, 0, 0]);",
         "refused 11:210 6\n",
     ),
-    (
-        "create table t (id int);\n%% foo",
-        "refused 1:14 5\n",
-    ),
+    ("create table t (id int);\n%% foo", "refused 1:14 5\n"),
     (
         "create table t (id int, n int, primary key (id), check (n <= 3));\ntxn p(n: int) { reply x; }\n%% init t(1, 9);",
         "refused 2:23 2\n",
