@@ -165,6 +165,7 @@ read_once tokens ts us rest last first second = by_read (txns_at tokens) refl
   where
     sure : (read : List Transaction × List Token) → txns_at tokens ≡ Ok read → (fault : Fault) → txns_at tokens ≡ Err fault → ⊥
     sure read e fault f = let bad : ◌≡◌ {A = Read (List Transaction)} (Ok read) (Err fault) = sym e ∙ f in absurd cc
+
     by_read : (read : Read (List Transaction)) → txns_at tokens ≡ read → Same ts us rest last
     by_read (Err fault) e = absurd (refused_none tokens ts rest fault e first)
     by_read (Ok read) e =

@@ -37,16 +37,16 @@ fn txns(rt: &impl Abort, alloc: Global, bytes: &[u8]) -> Result<(Vec<Txn>, usize
 /// So many pieces one after another, between a front and a back.
 fn repeated(
     alloc: Global,
-    front: &[u8],
-    piece: &[u8],
+    front: &str,
+    piece: &str,
     count: usize,
-    back: &[u8],
+    back: &str,
 ) -> Result<Vec<u8>, Fail> {
-    let mut bytes = Vec::from_slice(alloc, front)?;
+    let mut bytes = Vec::from_slice(alloc, front.as_bytes())?;
     for _ in 0..count {
-        bytes.extend_from_slice(piece)?;
+        bytes.extend_from_slice(piece.as_bytes())?;
     }
-    bytes.extend_from_slice(back)?;
+    bytes.extend_from_slice(back.as_bytes())?;
     Ok(bytes)
 }
 
@@ -156,146 +156,30 @@ fn misplaced_in_expressions(rt: HostRuntime) -> Result<(), Fail> {
     Ok(())
 }
 
+/// A front, a piece, how often it stands, a back, and the column and the code of the refusal.
+const LIMITS_OF_TRANSACTIONS: [(&str, &str, usize, &str, u32, u8); 17] = [
+    ("", "txn f(){}", 32, "txn", 289, 6),
+    ("txn f(", "a:int,", 16, "a", 103, 6),
+    ("txn f(a:int", ",a:int", 15, ",)", 103, 1),
+    ("txn f(){", "abort 1;", 128, "abort 1;", 1033, 6),
+    ("txn f(){", "abort 1;", 128, ")", 1033, 1),
+    ("txn f(){if 1=1{", "abort 1;", 127, "}x", 1033, 6),
+    ("txn f(){", "if 1=1{}", 128, "if", 1033, 6),
+    ("txn f(){", "if 1=1{", 7, "if 1=1 {", 65, 6),
+    ("txn f(){", "if 1=1{", 7, "if 1=1 ;", 65, 1),
+    ("txn f(){", "if 1=1{", 7, "if (((((((((((((((", 75, 6),
+    ("txn f(){", "if 1=1{", 7, "each x in l {", 70, 6),
+    ("txn f(){", "each x in l{}", 15, "each", 204, 6),
+    ("txn f(){", "for r in t{}", 15, "for", 189, 6),
+    ("txn f(){", "each x in l{}", 14, "each x in l{each", 203, 1),
+    ("txn f(){", "let a=1;", 32, "let a", 269, 6),
+    ("txn f(){", "let a=1;", 32, "let 5", 269, 1),
+    ("txn f(){", "x=1;", 1, "abort 1000;", 19, 6),
+];
+
 #[test]
 fn limits_of_transactions(rt: HostRuntime) -> Result<(), Fail> {
-    for (front, piece, count, back, col, code) in [
-        (
-            b"".as_slice(),
-            b"txn f(){}".as_slice(),
-            32,
-            b"txn".as_slice(),
-            289,
-            6,
-        ),
-        (
-            b"txn f(".as_slice(),
-            b"a:int,".as_slice(),
-            16,
-            b"a".as_slice(),
-            103,
-            6,
-        ),
-        (
-            b"txn f(a:int".as_slice(),
-            b",a:int".as_slice(),
-            15,
-            b",)".as_slice(),
-            103,
-            1,
-        ),
-        (
-            b"txn f(){".as_slice(),
-            b"abort 1;".as_slice(),
-            128,
-            b"abort 1;".as_slice(),
-            1033,
-            6,
-        ),
-        (
-            b"txn f(){".as_slice(),
-            b"abort 1;".as_slice(),
-            128,
-            b")".as_slice(),
-            1033,
-            1,
-        ),
-        (
-            b"txn f(){if 1=1{".as_slice(),
-            b"abort 1;".as_slice(),
-            127,
-            b"}x".as_slice(),
-            1033,
-            6,
-        ),
-        (
-            b"txn f(){".as_slice(),
-            b"if 1=1{}".as_slice(),
-            128,
-            b"if".as_slice(),
-            1033,
-            6,
-        ),
-        (
-            b"txn f(){".as_slice(),
-            b"if 1=1{".as_slice(),
-            7,
-            b"if 1=1 {".as_slice(),
-            65,
-            6,
-        ),
-        (
-            b"txn f(){".as_slice(),
-            b"if 1=1{".as_slice(),
-            7,
-            b"if 1=1 ;".as_slice(),
-            65,
-            1,
-        ),
-        (
-            b"txn f(){".as_slice(),
-            b"if 1=1{".as_slice(),
-            7,
-            b"if (((((((((((((((".as_slice(),
-            75,
-            6,
-        ),
-        (
-            b"txn f(){".as_slice(),
-            b"if 1=1{".as_slice(),
-            7,
-            b"each x in l {".as_slice(),
-            70,
-            6,
-        ),
-        (
-            b"txn f(){".as_slice(),
-            b"each x in l{}".as_slice(),
-            15,
-            b"each".as_slice(),
-            204,
-            6,
-        ),
-        (
-            b"txn f(){".as_slice(),
-            b"for r in t{}".as_slice(),
-            15,
-            b"for".as_slice(),
-            189,
-            6,
-        ),
-        (
-            b"txn f(){".as_slice(),
-            b"each x in l{}".as_slice(),
-            14,
-            b"each x in l{each".as_slice(),
-            203,
-            1,
-        ),
-        (
-            b"txn f(){".as_slice(),
-            b"let a=1;".as_slice(),
-            32,
-            b"let a".as_slice(),
-            269,
-            6,
-        ),
-        (
-            b"txn f(){".as_slice(),
-            b"let a=1;".as_slice(),
-            32,
-            b"let 5".as_slice(),
-            269,
-            1,
-        ),
-        (
-            b"txn f(){".as_slice(),
-            b"x=1;".as_slice(),
-            1,
-            b"abort 1000;".as_slice(),
-            19,
-            6,
-        ),
-    ] {
+    for (front, piece, count, back, col, code) in LIMITS_OF_TRANSACTIONS {
         let bytes = repeated(rt.alloc(), front, piece, count, back)?;
         assert_eq!(&rt;
             refusal(&rt, rt.alloc(), &bytes)?,
@@ -305,83 +189,23 @@ fn limits_of_transactions(rt: HostRuntime) -> Result<(), Fail> {
     }
     Ok(())
 }
+
+/// The same, of expressions and conditions.
+const LIMITS_OF_EXPRESSIONS: [(&str, &str, usize, &str, u32, u8); 9] = [
+    ("txn f(){reply ", "(", 15, "(", 30, 6),
+    ("txn f(){reply ", "-", 15, "-", 30, 6),
+    ("txn f(){reply 1", "+1", 15, "+", 46, 6),
+    ("txn f(){reply 1", "*1", 15, "*", 46, 6),
+    ("txn f(){if ", "(", 14, "(", 26, 6),
+    ("txn f(){if ", "not ", 14, "not", 68, 6),
+    ("txn f(){if ", "[", 14, "[", 26, 6),
+    ("txn f(){if 1=1", " and 1=1", 14, " and", 128, 6),
+    ("txn f(){if 1=1", " or 1=1", 14, " or", 114, 6),
+];
 
 #[test]
 fn limits_of_expressions(rt: HostRuntime) -> Result<(), Fail> {
-    for (front, piece, count, back, col, code) in [
-        (
-            b"txn f(){reply ".as_slice(),
-            b"(".as_slice(),
-            15,
-            b"(".as_slice(),
-            30,
-            6,
-        ),
-        (
-            b"txn f(){reply ".as_slice(),
-            b"-".as_slice(),
-            15,
-            b"-".as_slice(),
-            30,
-            6,
-        ),
-        (
-            b"txn f(){reply 1".as_slice(),
-            b"+1".as_slice(),
-            15,
-            b"+".as_slice(),
-            46,
-            6,
-        ),
-        (
-            b"txn f(){reply 1".as_slice(),
-            b"*1".as_slice(),
-            15,
-            b"*".as_slice(),
-            46,
-            6,
-        ),
-        (
-            b"txn f(){if ".as_slice(),
-            b"(".as_slice(),
-            14,
-            b"(".as_slice(),
-            26,
-            6,
-        ),
-        (
-            b"txn f(){if ".as_slice(),
-            b"not ".as_slice(),
-            14,
-            b"not".as_slice(),
-            68,
-            6,
-        ),
-        (
-            b"txn f(){if ".as_slice(),
-            b"[".as_slice(),
-            14,
-            b"[".as_slice(),
-            26,
-            6,
-        ),
-        (
-            b"txn f(){if 1=1".as_slice(),
-            b" and 1=1".as_slice(),
-            14,
-            b" and".as_slice(),
-            128,
-            6,
-        ),
-        (
-            b"txn f(){if 1=1".as_slice(),
-            b" or 1=1".as_slice(),
-            14,
-            b" or".as_slice(),
-            114,
-            6,
-        ),
-    ] {
+    for (front, piece, count, back, col, code) in LIMITS_OF_EXPRESSIONS {
         let bytes = repeated(rt.alloc(), front, piece, count, back)?;
         assert_eq!(&rt;
             refusal(&rt, rt.alloc(), &bytes)?,
@@ -392,77 +216,25 @@ fn limits_of_expressions(rt: HostRuntime) -> Result<(), Fail> {
     Ok(())
 }
 
+/// A front, a piece, how often it stands, and a back.
+const GREATEST: [(&str, &str, usize, &str); 12] = [
+    ("", "txn f(){}", 32, ""),
+    ("txn f(a:int", ",a:int", 15, "){}"),
+    ("txn f(){", "abort 1;", 128, "}"),
+    ("txn f(){", "if 1=1{", 7, "}}}}}}}}"),
+    ("txn f(){", "each x in l{}", 15, "}"),
+    ("txn f(){", "let a=1;", 32, "}"),
+    ("txn f(){", "x=1;", 1, "abort 999;}"),
+    ("txn f(){reply ", "-", 15, "1;}"),
+    ("txn f(){reply 1", "+1", 15, ";}"),
+    ("txn f(){if ", "not ", 14, "1=1{}}"),
+    ("txn f(){if 1=1", " and 1=1", 14, "{}}"),
+    ("txn f(){reply ", "(", 15, "1)))))))))))))));}"),
+];
+
 #[test]
 fn greatest_that_are_read(rt: HostRuntime) -> Result<(), Fail> {
-    for (front, piece, count, back) in [
-        (b"".as_slice(), b"txn f(){}".as_slice(), 32, b"".as_slice()),
-        (
-            b"txn f(a:int".as_slice(),
-            b",a:int".as_slice(),
-            15,
-            b"){}".as_slice(),
-        ),
-        (
-            b"txn f(){".as_slice(),
-            b"abort 1;".as_slice(),
-            128,
-            b"}".as_slice(),
-        ),
-        (
-            b"txn f(){".as_slice(),
-            b"if 1=1{".as_slice(),
-            7,
-            b"}}}}}}}}".as_slice(),
-        ),
-        (
-            b"txn f(){".as_slice(),
-            b"each x in l{}".as_slice(),
-            15,
-            b"}".as_slice(),
-        ),
-        (
-            b"txn f(){".as_slice(),
-            b"let a=1;".as_slice(),
-            32,
-            b"}".as_slice(),
-        ),
-        (
-            b"txn f(){".as_slice(),
-            b"x=1;".as_slice(),
-            1,
-            b"abort 999;}".as_slice(),
-        ),
-        (
-            b"txn f(){reply ".as_slice(),
-            b"-".as_slice(),
-            15,
-            b"1;}".as_slice(),
-        ),
-        (
-            b"txn f(){reply 1".as_slice(),
-            b"+1".as_slice(),
-            15,
-            b";}".as_slice(),
-        ),
-        (
-            b"txn f(){if ".as_slice(),
-            b"not ".as_slice(),
-            14,
-            b"1=1{}}".as_slice(),
-        ),
-        (
-            b"txn f(){if 1=1".as_slice(),
-            b" and 1=1".as_slice(),
-            14,
-            b"{}}".as_slice(),
-        ),
-        (
-            b"txn f(){reply ".as_slice(),
-            b"(".as_slice(),
-            15,
-            b"1)))))))))))))));}".as_slice(),
-        ),
-    ] {
+    for (front, piece, count, back) in GREATEST {
         let bytes = repeated(rt.alloc(), front, piece, count, back)?;
         assert!(&rt; read(&rt, rt.alloc(), &bytes)?.is_ok(), "in {bytes:?}");
     }
