@@ -20,3 +20,4 @@ pub mod FrontDocumentLaws
 pub mod LineLaws
 pub mod LongLaws
 pub mod CallMarkLaws
+pub mod CallTurnLaws

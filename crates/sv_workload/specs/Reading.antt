@@ -235,9 +235,13 @@ pub record IsBounded (g : Given) : Type 0 where
   pub rows : (n : ℕ) → g.rows ≡ Some n → n ≤ most_of Rows
   pub changes : (n : ℕ) → g.changes ≡ Some n → n ≤ most_of Changes
 
+-- a comma and an element
+abbrev pub comma_before : {A : Type 0} → (List Token → Read A) → List Token → Read A
+comma_before x tokens = kind_at (Mark Comma) tokens >>= λ _ r. x r
+
 -- elements behind commas up to a closing mark, behind these
 abbrev pub more_to : {A : Type 0} → TokenKind → (List Token → Read A) → List A → List Token → Read (List A)
-more_to close x = turns_at (is_next (Mark Comma)) (λ xs tokens. (kind_at (Mark Comma) tokens >>= λ _ r. x r) >>= λ a r. Ok (xs ++ a ∷ [], r)) (λ xs tokens. kind_at close tokens >>= λ _ r. Ok (xs, r))
+more_to close x = turns_at (is_next (Mark Comma)) (λ xs tokens. comma_before x tokens >>= λ a r. Ok (xs ++ a ∷ [], r)) (λ xs tokens. kind_at close tokens >>= λ _ r. Ok (xs, r))
 
 -- elements up to a closing mark, or none
 abbrev pub listed_to : {A : Type 0} → TokenKind → (List Token → Read A) → List Token → Read (List A)

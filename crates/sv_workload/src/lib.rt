@@ -1,6 +1,7 @@
 //! Reads the initial rows of a document and what is to be done with it, or says where and why it is refused.
 #![tactic(auto)]
 
+mod calls;
 mod checked;
 mod inits;
 mod parts;
