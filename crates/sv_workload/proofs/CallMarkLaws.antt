@@ -281,7 +281,7 @@ pub data CallWrong (txns : List Transaction) (tokens : List Token) (code : Code)
 abbrev pub CallAt : List Transaction → List Token → Refusals
 CallAt txns tokens code here = CallWrong txns tokens code × (here ≡ tokens)
 
-name_begins_call : (token : Token) (ident : Ident) → IsName ident token → Begins call (token ∷ [])
+pub name_begins_call : (token : Token) (ident : Ident) → IsName ident token → Begins call (token ∷ [])
 name_begins_call token ident is = record {
   more = token_of (Mark LeftParen) ∷ token_of (Mark RightParen) ∷ [];
   item = record { txn = ident; args = [] };
