@@ -80,7 +80,7 @@ line_none schema txns sites before code here is = by_case code here [] refl is
     by_case _ _ tokens e (last.NoTable at front here table w is begins none) = word_front (codes "show") _ front here tokens e w is
     by_case _ _ tokens e (last.InCall n front rest code here w is refused) = word_front (codes "ask") _ front rest tokens e w is
 
-session_none : (txns : List Transaction) (before : List Session) → AreNone (SessionRefused txns before [])
+pub session_none : (txns : List Transaction) (before : List Session) → AreNone (SessionRefused txns before [])
 session_none txns before code here is = by_case code here [] refl is
   where
     by_case : (code : Code) (here tokens : List Token) → tokens ≡ [] → SessionRefused txns before tokens code here → ⊥

@@ -22,3 +22,4 @@ pub mod LongLaws
 pub mod CallMarkLaws
 pub mod CallTurnLaws
 pub mod EntryLaws
+pub mod SessionLaws
