@@ -21,3 +21,4 @@ pub mod LineLaws
 pub mod LongLaws
 pub mod CallMarkLaws
 pub mod CallTurnLaws
+pub mod LongTurnLaws
