@@ -12,6 +12,8 @@ pub mod KeptLaws
 pub mod DocumentLaws
 pub mod SuffixLaws
 pub mod SettingLaws
+pub mod EntryLaws
+pub mod SessionLaws
 pub mod FrontLaws
 pub mod LastLaws
 pub mod CallLaws
@@ -21,5 +23,4 @@ pub mod LineLaws
 pub mod LongLaws
 pub mod CallMarkLaws
 pub mod CallTurnLaws
-pub mod EntryLaws
-pub mod SessionLaws
+pub mod LongTurnLaws

@@ -61,7 +61,7 @@ fn arg_of(value: Val) -> Arg
 
 /// Reads an argument.
 #[tactic(auto, unfolding(crate::specs::Reading::argument_at))]
-fn argument(alloc: Global, reader: &mut Reader<'_>) -> Result<Arg, Halt>
+pub fn argument(alloc: Global, reader: &mut Reader<'_>) -> Result<Arg, Halt>
     ensures { Reads (λ a. a) result reader.new.rest.now (argument_at reader.old.rest.now) }
 {
     if reader.is_mark(Mark::LeftBracket) {

@@ -24,7 +24,7 @@ fn fault_at(code: Code, left: usize) -> Halt
 }
 
 /// The name that a token is, unless it is a reserved word.
-fn name_of(token: &Token) -> Option<Ident>
+pub fn name_of(token: &Token) -> Option<Ident>
     ensures { result ≡ name_of token.now }
 {
     match &token.kind {

@@ -1,9 +1,11 @@
 //! Reads the initial rows of a document and what is to be done with it, or says where and why it is refused.
 #![tactic(auto)]
 
+mod call_marks;
 mod calls;
 mod checked;
 mod inits;
+mod longs;
 mod parts;
 mod reading;
 mod rows;
