@@ -14,6 +14,7 @@ pub mod SuffixLaws
 pub mod SettingLaws
 pub mod EntryLaws
 pub mod SessionLaws
+pub mod SessionTurnLaws
 pub mod FrontLaws
 pub mod LastLaws
 pub mod CallLaws

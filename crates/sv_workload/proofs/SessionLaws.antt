@@ -398,9 +398,9 @@ module _ (txns : List Transaction) where
   judges before (token ∷ others) e =
       session_judged (length (sessions_seen before)) (total length (sessions_seen before)) token others before (length-map before seen) (total_seen before)
 
-  shrinks : (index count : ℕ) (tokens : List Token) (s : Session) (rest : List Token) → is_some_left tokens ≡ true → session_from txns index count tokens ≡ Ok (s, rest) → length rest < length tokens
-  shrinks index count [] s rest t e = absurd cc
-  shrinks index count (token ∷ others) s rest t e = by_element (session_in index count token others s rest ((parts_judged index count token others).took s rest e))
+  pub session_shrinks : (index count : ℕ) (tokens : List Token) (s : Session) (rest : List Token) → is_some_left tokens ≡ true → session_from txns index count tokens ≡ Ok (s, rest) → length rest < length tokens
+  session_shrinks index count [] s rest t e = absurd cc
+  session_shrinks index count (token ∷ others) s rest t e = by_element (session_in index count token others s rest ((parts_judged index count token others).took s rest e))
     where
       by_front : (front : List Token) → session s front → token ∷ others ≡ front ++ rest → length rest < length (token ∷ others)
       by_front [] is w = absurd (session_some s is)
@@ -419,7 +419,7 @@ module _ (txns : List Transaction) where
   pub session_steps : Steps is_some_left session_read (λ sessions s. sessions ++ seen s ∷ []) sessions_seen session (SessionRefused txns)
   session_steps = record {
     judges = judges;
-    shrinks = λ sessions tokens s rest t e. shrinks (length sessions) (total length sessions) tokens s rest t e;
+    shrinks = λ sessions tokens s rest t e. session_shrinks (length sessions) (total length sessions) tokens s rest t e;
     some = session_some;
     opens = session_opens;
     stops = session_stops;

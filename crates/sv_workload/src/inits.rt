@@ -124,7 +124,7 @@ fn is_percents(token: &Token) -> bool
     }
 }
 
-fn is_word(token: &Token, word: &[u8]) -> bool
+pub fn is_word(token: &Token, word: &[u8]) -> bool
     ensures { result ≡ is_kind (IsName word.now) token.now.kind }
 {
     match &token.kind {

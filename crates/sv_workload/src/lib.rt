@@ -9,6 +9,7 @@ mod longs;
 mod parts;
 mod reading;
 mod rows;
+mod sessions;
 mod settings;
 mod values;
 mod written;
