@@ -15,6 +15,8 @@ pub mod SettingLaws
 pub mod EntryLaws
 pub mod SessionLaws
 pub mod SessionTurnLaws
+pub mod BehindLaws
+pub mod WorkLaws
 pub mod FrontLaws
 pub mod LastLaws
 pub mod CallLaws

@@ -4,18 +4,20 @@ ghost use Rattle.sv_app.specs.declared.refusals.Stop.TheVariants.{Refused};
 ghost use Rattle.sv_app.specs.Accepted.{AcceptedApp};
 ghost use Rattle.sv_app.specs.Schema.{schema_of};
 ghost use Rattle.sv_app.specs.Trees.{transactions_of};
+ghost use Rattle.sv_schema_reader.specs.Reading.{Reads};
 ghost use Rattle.sv_workload.specs.declared.parts.Parts.{Parts as AnyParts};
 ghost use Rattle.sv_workload.specs.declared.parts.Work.TheVariants.{Nothing};
 ghost use Rattle.sv_workload.specs.Documents.{AreParts, IsRefused, IsAnswer};
 ghost use Rattle.sv_workload.specs.Reading.{IsBounded};
-ghost use Rattle.sv_workload.specs.Stops.{head_work, set_parts, FrontKept, FrontStops};
+ghost use Rattle.sv_workload.specs.Stops.{work_from, last_from, set_parts, LastKept, LastStops};
 
 use crate::checked::{read_init, refusal_of};
 use crate::parts::{Parts, Work};
+use crate::sessions::sessions;
 use crate::settings::front;
 use crate::written::{Given, PartHead};
 use std::alloc::Global;
-use sv_app::{App, InitRow, Stop};
+use sv_app::{App, InitRow, Stop, Txn};
 use sv_lex::Token;
 use sv_schema_reader::{Halt, Reader};
 use sv_value::{List, Spot};
@@ -40,21 +42,11 @@ fn bare_parts(init: List<InitRow>) -> Parts
     }
 }
 
-/// What a last part without steps and sessions asks for.
-fn head_work(alloc: Global, head: PartHead) -> Work
-    ensures { result ≡ head_work head }
-{
-    match head {
-        PartHead::Replay => Work::Replay(List::new(alloc)),
-        PartHead::Run => Work::Sessions(List::new(alloc)),
-    }
-}
-
-/// Parts with these settings, and without steps and sessions.
-fn set_parts(alloc: Global, init: List<InitRow>, head: PartHead, given: &Given) -> Parts
+/// Parts with these settings and this work.
+fn set_parts(init: List<InitRow>, given: &Given, work: Work) -> Parts
     requires few { length init ≤ 4096 }
     requires bounded { IsBounded given.now }
-    ensures { result ≡ set_parts init head given.now }
+    ensures { result ≡ set_parts init given.now work }
 {
     Parts {
         sites: match given.sites {
@@ -69,7 +61,7 @@ fn set_parts(alloc: Global, init: List<InitRow>, head: PartHead, given: &Given) 
             Some(number) => number as u32,
             None => DEFAULT_CHANGES,
         },
-        work: head_work(alloc, head),
+        work,
         init,
     }
 }
@@ -81,18 +73,52 @@ fn behind(tokens: &[Token], left: usize) -> &[Token]
     &tokens[tokens.len().saturating_sub(left)..]
 }
 
-/// Reads a last part without steps and sessions, behind these initial rows. Steps and sessions aren't read yet: they are
-/// answered as want of memory.
-fn read_last(alloc: Global, init: List<InitRow>, tokens: &[Token], end: Spot) -> Result<Parts, Stop>
+/// Reads what is to be done. Steps aren't read yet.
+fn work(alloc: Global, reader: &mut Reader<'_>, txns: &[Txn], head: PartHead) -> Result<Work, Halt>
+    requires few { length txns.now ≤ 32 }
+    ensures { Reads (λ work. work) result reader.new.rest.now (work_from (transactions_of txns.now) head reader.old.rest.now) }
+{
+    match head {
+        PartHead::Replay => Ok(Work::Replay(List::new(alloc))),
+        PartHead::Run => Ok(Work::Sessions(sessions(alloc, reader, txns)?)),
+    }
+}
+
+/// Reads a last part, behind so many initial rows: its settings, and what is to be done.
+#[tactic(auto, unfolding(crate::specs::Stops::last_from))]
+fn last(
+    alloc: Global,
+    reader: &mut Reader<'_>,
+    txns: &[Txn],
+    rows: usize,
+) -> Result<(Given, Work), Halt>
+    requires few { length txns.now ≤ 32 }
+    ensures read { Reads (λ last. last) result reader.new.rest.now (last_from (transactions_of txns.now) rows reader.old.rest.now) }
+    ensures bounded { IfOk result (λ last. IsBounded last.0) }
+{
+    let (head, given) = front(reader, rows)?;
+    let work = work(alloc, reader, txns, head)?;
+    Ok((given, work))
+}
+
+/// Reads a last part, behind these initial rows. Steps aren't read yet: they are answered as want of memory.
+fn read_last(
+    alloc: Global,
+    app: &App,
+    init: List<InitRow>,
+    tokens: &[Token],
+    end: Spot,
+) -> Result<Parts, Stop>
     requires few { length init ≤ 4096 }
-    ensures read { IfOk result (λ parts. FrontKept init tokens.now parts) }
-    ensures refused { (refusal : IsRefusal) → result ≡ Err (Refused refusal) → FrontStops (length init) tokens.now end refusal }
+    requires accepted { AcceptedApp (schema_of app.now.tables.items) (transactions_of app.now.txns.items) }
+    ensures read { IfOk result (λ parts. LastKept (transactions_of app.now.txns.items) init tokens.now parts) }
+    ensures refused { (refusal : IsRefusal) → result ≡ Err (Refused refusal) → LastStops (transactions_of app.now.txns.items) (length init) tokens.now end refusal }
 {
     let mut reader = Reader { rest: tokens };
-    match front(&mut reader, init.len()) {
-        Ok((head, given)) => {
+    match last(alloc, &mut reader, &app.txns, init.len()) {
+        Ok((given, work)) => {
             if reader.rest.is_empty() {
-                Ok(set_parts(alloc, init, head, &given))
+                Ok(set_parts(init, &given, work))
             } else {
                 Err(Stop::NoMemory)
             }
@@ -114,7 +140,7 @@ fn read_whole(alloc: Global, app: &App, tokens: &[Token], end: Spot) -> Result<P
             if left == 0 {
                 return Ok(bare_parts(init));
             }
-            read_last(alloc, init, behind(tokens, left), end)
+            read_last(alloc, app, init, behind(tokens, left), end)
         }
         Err(stop) => Err(stop),
     }
