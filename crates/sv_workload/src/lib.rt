@@ -16,3 +16,6 @@ mod written;
 
 pub use parts::{Parts, Step, Work};
 pub use written::{Call, Color, Given, PartHead, Row, Setting, Verb};
+
+#[cfg(test)]
+mod session_tests;
