@@ -8,3 +8,4 @@ pub mod Reading
 pub mod Rows
 pub mod Stops
 pub mod Written
+pub mod LineReading

@@ -5,6 +5,8 @@ mod call_marks;
 mod calls;
 mod checked;
 mod inits;
+mod line_marks;
+mod lines;
 mod longs;
 mod parts;
 mod reading;
