@@ -22,3 +22,5 @@ pub mod LongLaws
 pub mod CallMarkLaws
 pub mod CallTurnLaws
 pub mod LongTurnLaws
+pub mod NumberMarkLaws
+pub mod LineMarkLaws
