@@ -24,3 +24,4 @@ pub mod CallTurnLaws
 pub mod LongTurnLaws
 pub mod NumberMarkLaws
 pub mod LineMarkLaws
+pub mod LineTurnLaws

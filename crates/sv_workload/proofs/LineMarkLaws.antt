@@ -29,7 +29,7 @@ use Rattle.sv_workload.specs.Grammar.{number, packet, call, line}
 use Rattle.sv_workload.specs.InitRefused.{BeginsName}
 use Rattle.sv_workload.specs.LastRefused.{BeginsWord, IsOutside, CallRefused, asks, shows, total, session_words, site_words, LineRefused, TooManyAsks, TooManyShows, BadSession, BadSite, BadOrigin, BadSeq, BadSlot}
 use Rattle.sv_workload.specs.LastRefused as last
-use Rattle.sv_workload.specs.LineReading.{verb_full, is_full, full_mark, most_number, most_packet, tail_mark, number_mark, verb_mark, line_mark, line_from, with_line, is_more}
+use Rattle.sv_workload.specs.LineReading.{verb_full, is_full, full_mark, most_number, most_packet, tail_mark, number_mark, verb_mark, line_mark, line_from, step_asks, step_shows, with_step, is_more}
 use Rattle.sv_workload.specs.Reading.{verb_named, verb_of, line_at, out_mark, from_read, count_at, or_else, settled}
 use Rattle.sv_workload.specs.Written.{Sent, Line, Ask, Order, Deliver, Settle, Catch, Show, Cut}
 use Rattle.sv_workload.proofs.InitLaws.{contra}
@@ -137,8 +137,33 @@ module _ (schema : List Declaration) (txns : List Transaction) where
   total_push count [] l = omega arith
   total_push count (x ∷ before) l = let more = total_push count before l in omega (arith, more)
 
-  pub state_push : (before : List Line) (l : Line) → state (before ++ l ∷ []) ≡ with_line schema txns (state before) l
-  state_push before l = λ i. record { steps = map-append (step_of schema txns) before (l ∷ []) i; asks = total_push asks before l i; shows = total_push shows before l i }
+  asks_same : (l : Line) → asks l ≡ step_asks (step_of schema txns l)
+  asks_same (Ask n c) = refl
+  asks_same (Order n) = refl
+  asks_same (Deliver n p) = refl
+  asks_same (Settle n) = refl
+  asks_same (Catch n) = refl
+  asks_same (Show n t) = refl
+  asks_same (Cut n) = refl
+
+  shows_same : (l : Line) → shows l ≡ step_shows (step_of schema txns l)
+  shows_same (Ask n c) = refl
+  shows_same (Order n) = refl
+  shows_same (Deliver n p) = refl
+  shows_same (Settle n) = refl
+  shows_same (Catch n) = refl
+  shows_same (Show n t) = refl
+  shows_same (Cut n) = refl
+
+  abbrev pub with_line : Steps → Line → Steps
+  with_line s l = with_step s (step_of schema txns l)
+
+  pub state_push : (before : List Line) (l : Line) → state (before ++ l ∷ []) ≡ with_line (state before) l
+  state_push before l = λ i. record {
+    steps = map-append (step_of schema txns) before (l ∷ []) i;
+    asks = (total_push asks before l ∙ ap (λ n. total asks before + n) (asks_same l)) i;
+    shows = (total_push shows before l ∙ ap (λ n. total shows before + n) (shows_same l)) i;
+  }
 
   -- too many steps
 
@@ -438,7 +463,7 @@ module _ (schema : List Declaration) (txns : List Transaction) where
 
     -- the loop
 
-    line_shrinks : (s : Steps) (tokens : List Token) (l : Line) (rest : List Token) → is_more tokens ≡ true → line_from schema txns sites s tokens ≡ Ok (l, rest) → length rest < length tokens
+    pub line_shrinks : (s : Steps) (tokens : List Token) (l : Line) (rest : List Token) → is_more tokens ≡ true → line_from schema txns sites s tokens ≡ Ok (l, rest) → length rest < length tokens
     unfolding line_from
     line_shrinks s tokens l rest t e = by_mark (line_mark schema txns sites s tokens) e
       where
@@ -458,5 +483,5 @@ module _ (schema : List Declaration) (txns : List Transaction) where
     line_stops before [] t code here is = line_none schema txns sites before code here is
     line_stops before (token ∷ others) t code here is = absurd cc
 
-    pub line_steps : loops.Steps is_more (line_from schema txns sites) (with_line schema txns) state line (LineRefused schema txns sites)
+    pub line_steps : loops.Steps is_more (line_from schema txns sites) with_line state line (LineRefused schema txns sites)
     line_steps = record { judges = line_judged; shrinks = line_shrinks; some = line_some; opens = line_opens; stops = line_stops; adds = state_push }

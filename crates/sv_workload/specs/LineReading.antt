@@ -13,12 +13,13 @@ use Rattle.sv_workload.specs.declared.lines.PlainPacket.TheVariants as plain_pac
 use Rattle.sv_workload.specs.declared.lines.PlainStep.{PlainStep}
 use Rattle.sv_workload.specs.declared.lines.PlainStep.TheVariants as plain_steps
 use Rattle.sv_workload.specs.declared.lines.Steps.{Steps}
+use Rattle.sv_workload.specs.declared.parts.Step.{Step}
+use Rattle.sv_workload.specs.declared.parts.Step.TheVariants as steps
 use Rattle.sv_workload.specs.declared.written.Color.{Color}
 use Rattle.sv_workload.specs.declared.written.Color.TheVariants as colors
 use Rattle.sv_workload.specs.declared.written.Verb.{Verb}
 use Rattle.sv_workload.specs.declared.written.Verb.TheVariants as verbs
 use Rattle.sv_workload.specs.Documents.{step_of}
-use Rattle.sv_workload.specs.LastRefused.{asks, shows}
 use Rattle.sv_workload.specs.Reading.{settled, or_else, out_mark, count_at, from_read, call_mark, color_of, verb_of, line_at}
 use Rattle.sv_workload.specs.Written.{Sent, Blue, Red, Line, Ask, Order, Deliver, Settle, Catch, Show, Cut}
 
@@ -105,9 +106,17 @@ line_mark schema txns sites s (token ∷ others) = verb_mark schema txns sites s
 unfoldable pub line_from : List Declaration → List Transaction → ℕ → Steps → List Token → Read Line
 line_from schema txns sites s tokens = settled (line_mark schema txns sites s tokens) (line_at tokens)
 
+abbrev pub step_asks : Step → ℕ
+step_asks (steps.Ask session request) = 1
+step_asks _ = 0
+
+abbrev pub step_shows : Step → ℕ
+step_shows (steps.Show site table) = 1
+step_shows _ = 0
+
 -- with one step more
-abbrev pub with_line : List Declaration → List Transaction → Steps → Line → Steps
-with_line schema txns s l = record { steps = s.steps ++ step_of schema txns l ∷ []; asks = s.asks + asks l; shows = s.shows + shows l }
+abbrev pub with_step : Steps → Step → Steps
+with_step s step = record { steps = s.steps ++ step ∷ []; asks = s.asks + step_asks step; shows = s.shows + step_shows step }
 
 abbrev pub no_steps : Steps
 no_steps = record { steps = []; asks = 0; shows = 0 }
@@ -118,7 +127,7 @@ is_more tokens = next (λ token. true) tokens
 
 -- all steps up to the end of the document
 abbrev pub lines_from : List Declaration → List Transaction → ℕ → Steps → List Token → Read Steps
-lines_from schema txns sites = turns_at is_more (λ s tokens. line_from schema txns sites s tokens >>= λ l r. Ok (with_line schema txns s l, r)) (λ s tokens. Ok (s, tokens))
+lines_from schema txns sites = turns_at is_more (λ s tokens. line_from schema txns sites s tokens >>= λ l r. Ok (with_step s (step_of schema txns l), r)) (λ s tokens. Ok (s, tokens))
 
 -- a site, and what is written of a step keeps its bounds
 abbrev pub IsSite : ℕ → Type 0
@@ -136,3 +145,8 @@ IsBoundedLine (Settle site) = IsSite site
 IsBoundedLine (Catch site) = IsSite site
 IsBoundedLine (Show site table) = IsSite site
 IsBoundedLine (Cut site) = IsSite site
+
+-- no more asks and shows than steps
+pub record IsCounted (s : Steps) : Type 0 where
+  pub asks : s.asks ≤ length s.steps
+  pub shows : s.shows ≤ length s.steps

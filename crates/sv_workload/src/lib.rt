@@ -7,6 +7,7 @@ mod checked;
 mod inits;
 mod line_marks;
 mod lines;
+mod replays;
 mod longs;
 mod parts;
 mod reading;

@@ -179,7 +179,7 @@ fn line_tail(
 
 /// Reads a step.
 #[tactic(auto, unfolding(crate::specs::Reading::line_at))]
-fn line(alloc: Global, reader: &mut Reader<'_>) -> Result<PlainStep, Halt>
+pub fn line(alloc: Global, reader: &mut Reader<'_>) -> Result<PlainStep, Halt>
     ensures { Reads line_of result reader.new.rest.now (line_at reader.old.rest.now) }
 {
     let verb = verb(reader)?;
@@ -237,7 +237,7 @@ fn table_number(tables: &[Table], name: &Ident) -> u16
 }
 
 /// What a step that is written stands for.
-fn step_of(tables: &[Table], txns: &[Txn], step: PlainStep) -> Step
+pub fn step_of(tables: &[Table], txns: &[Txn], step: PlainStep) -> Step
     requires tables { length tables.now ≤ 16 }
     requires txns { length txns.now ≤ 32 }
     requires bounded { IsBoundedLine (line_of step) }
