@@ -35,7 +35,7 @@ word_some bytes is = let bad : [] ≡ is.token ∷ [] = is.only in absurd cc
 first_word : (bytes : List ℕ) (Rest : List Token → Type 0) → (word bytes · Rest) [] → ⊥
 first_word bytes Rest is = let bad : [] ≡ is.first.token ∷ is.back = is.whole ∙ ap (λ l. l ++ is.back) is.first.only in absurd cc
 
-line_some : (l : Line) → line l [] → ⊥
+pub line_some : (l : Line) → line l [] → ⊥
 line_some (Ask n c) is = first_word (codes "ask") _ is
 line_some (Order n) is = first_word (codes "order") _ is
 line_some (Deliver n p) is = first_word (codes "deliver") _ is
@@ -64,7 +64,7 @@ word_front bytes Rest front here tokens e w is = first_word bytes Rest (subst (�
 word_alone : (bytes : List ℕ) (front here tokens : List Token) → tokens ≡ [] → tokens ≡ front ++ here → word bytes front → ⊥
 word_alone bytes front here tokens e w is = word_some bytes (subst (λ l. word bytes l) (front_empty front here (sym e ∙ w)) is)
 
-line_none : (schema : List Declaration) (txns : List Transaction) (sites : ℕ) (before : List Line) → AreNone (LineRefused schema txns sites before [])
+pub line_none : (schema : List Declaration) (txns : List Transaction) (sites : ℕ) (before : List Line) → AreNone (LineRefused schema txns sites before [])
 line_none schema txns sites before code here is = by_case code here [] refl is
   where
     by_case : (code : Code) (here tokens : List Token) → tokens ≡ [] → LineRefused schema txns sites before tokens code here → ⊥

@@ -27,3 +27,6 @@ pub mod LongLaws
 pub mod CallMarkLaws
 pub mod CallTurnLaws
 pub mod LongTurnLaws
+pub mod NumberMarkLaws
+pub mod LineMarkLaws
+pub mod LineTurnLaws
