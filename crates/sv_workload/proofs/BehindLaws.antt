@@ -1,12 +1,12 @@
 -- What stands behind the head and the settings of a last part, and what is refused there.
-use Rattle.std.proofs.Common.{◌≡◌, ◌≢◌, ◌∙◌, ℕ, false, List, [], ◌∷◌, ◌++◌, length, Option, Some, None, Ok, Err, refl, sym, ap, subst, append_assoc}
+use Rattle.std.proofs.Common.{◌≡◌, ◌∙◌, ℕ, false, List, [], ◌++◌, Option, Some, None, Ok, refl, sym, ap, subst, append_assoc}
 use Rattle.std.specs.Option.{unwrap_or}
 use Rattle.sv_lex.specs.declared.tokens.Token.{Token}
 use Rattle.sv_app.specs.declared.refusals.Code.{Code}
 use Rattle.sv_app.specs.declared.refusals.Code.TheVariants.{Syntax}
 use Rattle.sv_app.specs.Schema.{Declaration}
 use Rattle.sv_app.specs.Trees.{Transaction}
-use Rattle.sv_schema_reader.specs.Grammar.{Both, ◌·◌}
+use Rattle.sv_schema_reader.specs.Grammar.{◌·◌}
 use Rattle.sv_workload.specs.declared.written.Given.{Given}
 use Rattle.sv_workload.specs.declared.written.PartHead.{PartHead}
 use Rattle.sv_workload.specs.declared.written.PartHead.TheVariants.{Replay as ReplayHead, Run as RunHead}

@@ -1,5 +1,5 @@
 -- The calls of a session: what is refused of a call besides the grammar, and that the loop judges all of them.
-use Rattle.std.proofs.Common.{◌≡◌, ◌≢◌, ◌∙◌, ℕ, zero, suc, ◌+◌, ◌<◌, ◌≤◌, ◌⊎◌, inl, inr, nat_le, nat_lt, Bool, true, false, if◌then◌else◌, cond, List, [], ◌∷◌, ◌++◌, length, map, Option, Some, None, Ok, Err, refl, sym, ap, subst, append_assoc, append-nil, arith, codes}
+use Rattle.std.proofs.Common.{◌≡◌, ◌∙◌, ℕ, zero, suc, ◌+◌, ◌<◌, ◌≤◌, ◌⊎◌, inl, inr, nat_le, nat_lt, Bool, true, false, if◌then◌else◌, List, [], ◌∷◌, ◌++◌, length, map, Option, Some, None, Ok, refl, sym, ap, subst, append_assoc, arith}
 use Rattle.std.proofs.lemmas.Bool.Decides.{nat_tests}
 use Rattle.std.proofs.lemmas.List.{length-append, length-map}
 use Rattle.sv_lex.specs.declared.marks.Mark.TheVariants.{Semi}
@@ -7,30 +7,27 @@ use Rattle.sv_lex.specs.declared.tokens.Token.{Token}
 use Rattle.sv_lex.specs.declared.tokens.TokenKind.TheVariants.{Mark}
 use Rattle.sv_app.specs.declared.refusals.Code.{Code}
 use Rattle.sv_app.specs.declared.refusals.Code.TheVariants.{Many}
-use Rattle.sv_app.specs.declared.requests.Request.{Request}
 use Rattle.sv_app.specs.Codes.{number_of}
 use Rattle.sv_app.specs.Trees.{Transaction}
 use Rattle.sv_schema_reader.specs.declared.faults.Fault.{Fault}
-use Rattle.sv_schema_reader.specs.Grammar.{Both, ◌·◌, mark}
-use Rattle.sv_schema_reader.specs.Reading.{Read, ◌>>=◌, given, name_of, is_name, turns_from, turns_at}
+use Rattle.sv_schema_reader.specs.Reading.{Read, given, is_name}
 use Rattle.sv_schema_reader.proofs.KindLaws.{token_of}
-use Rattle.sv_schema_reader.proofs.MadeLaws.{Made, take_plain, skip_last}
+use Rattle.sv_schema_reader.proofs.MadeLaws.{take_plain, skip_last}
 use Rattle.sv_schema_reader.proofs.PartLaws.{name_next}
-use Rattle.sv_schema_reader.proofs.ReadLaws.{Plain, anything, same_plain, same_read}
+use Rattle.sv_schema_reader.proofs.ReadLaws.{Plain, anything, same_plain}
 use Rattle.sv_workload.specs.declared.written.Call.{Call}
-use Rattle.sv_workload.specs.Documents.{request_of}
 use Rattle.sv_workload.specs.Elements.{Refusals, Begins, IsMisplaced, AreNone}
 use Rattle.sv_workload.specs.Grammar.{call, entry}
 use Rattle.sv_workload.specs.LastRefused.{CallRefused, NoTxn, Unfit, LongList, BeginsCall, EntryRefused, TooMany, InCall}
 use Rattle.sv_workload.specs.LastRefused as last
-use Rattle.sv_workload.specs.Reading.{as_item, at_front, settled, call_mark}
-use Rattle.sv_workload.specs.SessionReading.{entry_at, sooner, crowd_mark, entry_mark, entry_from, entries_seen}
+use Rattle.sv_workload.specs.Reading.{at_front, settled, call_mark}
+use Rattle.sv_workload.specs.SessionReading.{entry_at, sooner, crowd_mark, entry_mark, entry_from}
 use Rattle.sv_workload.proofs.CallLaws.{call_law}
 use Rattle.sv_workload.proofs.CallMarkLaws.{call_marks, name_begins_call}
-use Rattle.sv_workload.proofs.InitLaws.{Named, named, name_begins, begins_row, contra}
+use Rattle.sv_workload.proofs.InitLaws.{named, name_begins, begins_row, contra}
 use Rattle.sv_workload.proofs.JudgeLaws.{Judged, judged_map}
-use Rattle.sv_workload.proofs.LoopLaws.{Element, Steps, keep}
-use Rattle.sv_workload.proofs.MarkLaws.{FirstMark, Marks, At, Before, place_marks, lift_marks, marks_map, Standing, Mark as OfMark, Misplaced, judged_marked}
+use Rattle.sv_workload.proofs.LoopLaws.{Element, Steps}
+use Rattle.sv_workload.proofs.MarkLaws.{FirstMark, Marks, At, Before, place_marks, lift_marks, Standing, Mark as OfMark, Misplaced, judged_marked}
 
 abbrev entry_made : Call → Unit {0} → Call
 entry_made c last = c

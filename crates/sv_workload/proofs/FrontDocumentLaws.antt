@@ -1,5 +1,5 @@
 -- The parts of a document by what was read of its last part.
-use Rattle.std.proofs.Common.{◌≡◌, ◌≢◌, ◌∙◌, ℕ, ◌-◌, max, List, [], ◌∷◌, ◌++◌, length, drop, map, Ok, Err, refl, sym, ap, subst}
+use Rattle.std.proofs.Common.{◌≡◌, ◌≢◌, ◌∙◌, ℕ, ◌-◌, max, List, [], ◌++◌, length, drop, map, refl, sym, ap, subst}
 use Rattle.std.specs.Option.{unwrap_or}
 use Rattle.std.proofs.lemmas.List.{length-map}
 use Rattle.sv_value.specs.declared.spots.Spot.{Spot}
@@ -21,7 +21,7 @@ use Rattle.sv_workload.specs.InitRefused.{AreInit, NoInit, Init}
 use Rattle.sv_workload.specs.LastRefused.{LastRefused}
 use Rattle.sv_workload.specs.LastRefused as last
 use Rattle.sv_workload.specs.Rows.{init_row}
-use Rattle.sv_workload.specs.Stops.{refusal_of, InitKept, last_from, set_parts, LastKept, LastStops}
+use Rattle.sv_workload.specs.Stops.{InitKept, last_from, set_parts, LastKept, LastStops}
 use Rattle.sv_workload.specs.Written.{Last}
 use Rattle.sv_workload.proofs.DocumentLaws.{suffix_at, same_init, good_of}
 use Rattle.sv_workload.proofs.KeptLaws.{Kept, kept}

@@ -1,5 +1,5 @@
 -- The sessions of a run: each is judged, and the loop judges all of them.
-use Rattle.std.proofs.Common.{◌≡◌, ◌≢◌, ◌∙◌, ℕ, pos, zero, suc, ◌+◌, ◌<◌, ◌≤◌, ◌⊎◌, inl, inr, nat_le, Bool, true, false, if◌then◌else◌, cond, List, [], ◌∷◌, ◌++◌, length, map, Option, Some, None, Ok, Err, refl, sym, ap, subst, append_assoc, append-nil, arith, codes}
+use Rattle.std.proofs.Common.{◌≡◌, ◌∙◌, ℕ, pos, suc, ◌+◌, ◌<◌, ◌≤◌, ◌⊎◌, inl, inr, nat_le, Bool, true, false, if◌then◌else◌, List, [], ◌∷◌, ◌++◌, length, map, Option, Some, None, Ok, refl, sym, ap, subst, append_assoc, arith, codes}
 use Rattle.std.proofs.lemmas.Bool.Decides.{nat_tests}
 use Rattle.std.proofs.lemmas.List.{length-append, length-map}
 use Rattle.sv_lex.specs.declared.marks.Mark.TheVariants.{LeftBrace, RightBrace}
@@ -11,25 +11,24 @@ use Rattle.sv_app.specs.declared.requests.Request.{Request}
 use Rattle.sv_app.specs.Codes.{number_of}
 use Rattle.sv_app.specs.Trees.{Transaction}
 use Rattle.sv_schema_reader.specs.declared.faults.Fault.{Fault}
-use Rattle.sv_schema_reader.specs.Grammar.{Both, ◌·◌, kind, word, mark}
-use Rattle.sv_schema_reader.specs.Reading.{Read, ◌>>=◌, is_kind, is_some, ident_of, is_name, given, found_at, kind_at, turns_from, turns_at}
+use Rattle.sv_schema_reader.specs.Grammar.{word, mark}
+use Rattle.sv_schema_reader.specs.Reading.{Read, ◌>>=◌, is_kind, is_some, ident_of, is_name, given, found_at}
 use Rattle.sv_schema_reader.proofs.KindLaws.{token_of, kind_is, kind_same}
-use Rattle.sv_schema_reader.proofs.MadeLaws.{Made, take_plain, skip_plain, skip_last}
+use Rattle.sv_schema_reader.proofs.MadeLaws.{take_plain, skip_plain, skip_last}
 use Rattle.sv_schema_reader.proofs.ReadLaws.{Plain, anything, same_plain, same_read}
 use Rattle.sv_workload.specs.declared.written.Call.{Call}
 use Rattle.sv_workload.specs.Documents.{request_of}
 use Rattle.sv_workload.specs.Elements.{Refusals, Begins, IsMisplaced, Among, AreNone}
 use Rattle.sv_workload.specs.Grammar.{many, session_head, entry, session}
 use Rattle.sv_workload.specs.LastRefused.{BeginsWith, BeginsWord, IsOutside, BeginsCall, EntryRefused, SessionRefused, Misplaced as SessionMisplaced, TooMany, BadNumber, InCalls, NoEnd, total, requests_in}
-use Rattle.sv_workload.specs.LastRefused as last
-use Rattle.sv_workload.specs.Reading.{as_item, at_front, or_else, settled, is_out, out_mark, natural_of}
-use Rattle.sv_workload.specs.SessionReading.{entry_from, entries_seen, entries_from, requests_from, session_head_at, session_mark, session_head_from, closed, session_from, session_requests, is_some_left, sessions_from}
+use Rattle.sv_workload.specs.Reading.{at_front, or_else, settled, is_out, out_mark, natural_of}
+use Rattle.sv_workload.specs.SessionReading.{entries_from, session_head_at, session_mark, session_head_from, closed, session_from, is_some_left, sessions_from}
 use Rattle.sv_workload.specs.Written.{Session}
 use Rattle.sv_workload.proofs.EntryLaws.{begins_call, call_begins, entry_steps}
 use Rattle.sv_workload.proofs.InitLaws.{contra}
 use Rattle.sv_workload.proofs.JudgeLaws as judge
 use Rattle.sv_workload.proofs.JudgeLaws.{Alike, Found, Judged, judged_map, judged_then, Either, InFirst, InSecond}
-use Rattle.sv_workload.proofs.LoopLaws.{Element, Elements, Steps, keep, judged_loop}
+use Rattle.sv_workload.proofs.LoopLaws.{Element, Elements, Steps, judged_loop}
 use Rattle.sv_workload.proofs.LastLaws.{session_none}
 use Rattle.sv_workload.proofs.MarkLaws.{Marks, At, Before, no_marks, place_marks, marks_or, marks_map, Standing, Mark as OfMark, Misplaced, judged_marked}
 use Rattle.sv_workload.proofs.SettingLaws.{count_law, out_is, is_out_by}

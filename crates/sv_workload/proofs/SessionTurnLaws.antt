@@ -1,5 +1,5 @@
 -- One turn more of the loops that read the calls of a session, and sessions.
-use Rattle.std.proofs.Common.{◌≡◌, ◌∙◌, ℕ, zero, suc, ◌+◌, ◌<◌, ◌≤◌, nat_le, nat_lt, Bool, true, false, if◌then◌else◌, cond, List, [], ◌∷◌, ◌++◌, length, map, Option, Some, None, Ok, Err, refl, sym, ap, subst, arith}
+use Rattle.std.proofs.Common.{◌≡◌, ◌∙◌, ℕ, zero, suc, ◌+◌, ◌<◌, ◌≤◌, nat_le, nat_lt, Bool, true, false, if◌then◌else◌, cond, List, [], ◌∷◌, ◌++◌, length, map, Option, Some, None, Ok, Err, refl, sym, ap, arith}
 use Rattle.std.proofs.lemmas.Bool.Decides.{nat_tests}
 use Rattle.std.proofs.lemmas.List.{length-append, length-map}
 use Rattle.sv_value.specs.declared.spots.Spot.{Spot}
@@ -10,18 +10,16 @@ use Rattle.sv_app.specs.declared.refusals.Code.TheVariants.{Many}
 use Rattle.sv_app.specs.declared.requests.Request.{Request}
 use Rattle.sv_app.specs.Trees.{Transaction}
 use Rattle.sv_schema_reader.specs.declared.faults.Fault.{Fault}
-use Rattle.sv_schema_reader.specs.Reading.{Read, ◌>>=◌, given, found_at, is_kind, is_name, turns_from, turns_at}
-use Rattle.sv_schema_reader.proofs.ReadLaws.{same_read}
+use Rattle.sv_schema_reader.specs.Reading.{Read, ◌>>=◌, given, found_at, is_kind, is_name, turns_from}
 use Rattle.sv_workload.specs.declared.written.Call.{Call}
 use Rattle.sv_workload.specs.Documents.{request_of}
 use Rattle.sv_workload.specs.LastRefused.{total}
 use Rattle.sv_workload.specs.Reading.{as_item, at_front, settled, call_mark}
 use Rattle.sv_workload.specs.SessionReading.{entry_at, sooner, crowd_mark, entry_mark, entry_from, entries_from, requests_from, session_head_from, closed, session_from, session_requests, is_some_left, sessions_from}
-use Rattle.sv_workload.specs.Written.{Session}
 use Rattle.sv_workload.proofs.EntryLaws.{entry_shrinks, entry_steps}
 use Rattle.sv_workload.proofs.LoopLaws.{keep, more, fault, end}
 use Rattle.sv_workload.proofs.SessionLaws.{seen, session_shrinks, session_steps}
-use Rattle.sv_workload.proofs.TurnLaws.{Before, before, before_err}
+use Rattle.sv_workload.proofs.TurnLaws.{before, before_err}
 
 module _ (txns : List Transaction) (count : ℕ) where
   pub requests_more : (requests : List Request) (tokens : List Token) (request : Request) (rest : List Token)

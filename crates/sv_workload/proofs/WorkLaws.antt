@@ -1,20 +1,18 @@
 -- A last part as a whole: what is read of it, and which refusal is its first.
-use Rattle.std.proofs.Common.{◌≡◌, ◌≢◌, ◌∙◌, ℕ, false, List, [], ◌∷◌, ◌++◌, length, map, Ok, Err, refl, sym, ap, subst, append_assoc, append-nil}
+use Rattle.std.proofs.Common.{◌≡◌, ◌≢◌, ◌∙◌, ℕ, List, [], ◌++◌, map, Ok, Err, refl, sym, ap, subst, append_assoc, append-nil}
 use Rattle.sv_lex.specs.declared.tokens.Token.{Token}
 use Rattle.sv_app.specs.declared.requests.Request.{Request}
 use Rattle.sv_app.specs.Schema.{Declaration}
 use Rattle.sv_app.specs.Trees.{Transaction}
 use Rattle.sv_schema_reader.specs.declared.faults.Fault.{Fault}
-use Rattle.sv_schema_reader.specs.Grammar.{Both, ◌·◌}
+use Rattle.sv_schema_reader.specs.Grammar.{◌·◌}
 use Rattle.sv_schema_reader.specs.Reading.{Read, ◌>>=◌}
-use Rattle.sv_schema_reader.proofs.ReadLaws.{Bound, bound, bound_err, same_read}
-use Rattle.sv_workload.specs.declared.parts.Step.{Step}
+use Rattle.sv_schema_reader.proofs.ReadLaws.{Bound, bound, same_read}
 use Rattle.sv_workload.specs.declared.parts.Work.{Work}
 use Rattle.sv_workload.specs.declared.parts.Work.TheVariants as works
 use Rattle.sv_workload.specs.declared.written.Given.{Given}
 use Rattle.sv_workload.specs.declared.written.PartHead.{PartHead}
 use Rattle.sv_workload.specs.declared.written.PartHead.TheVariants.{Replay as ReplayHead, Run as RunHead}
-use Rattle.sv_workload.specs.declared.written.Setting.{Setting}
 use Rattle.sv_workload.specs.Documents.{settings_of, work_of, step_of}
 use Rattle.sv_workload.specs.Elements.{AreNone}
 use Rattle.sv_workload.specs.Grammar.{many, setting, session, last_part}
@@ -22,10 +20,9 @@ use Rattle.sv_workload.specs.LastRefused.{part_head, LastRefused}
 use Rattle.sv_workload.specs.Reading.{front_from}
 use Rattle.sv_workload.specs.SessionReading.{is_some_left, sessions_from}
 use Rattle.sv_workload.specs.Stops.{work_from, last_from}
-use Rattle.sv_workload.specs.Written.{Line, Session, Last, Absent, Replay, Run}
+use Rattle.sv_workload.specs.Written.{Line, Last, Absent, Replay, Run}
 use Rattle.sv_workload.proofs.BehindLaws.{Opened, opened, Same, only, behind_in, behind_out}
 use Rattle.sv_workload.proofs.DocumentLaws.{no_head}
-use Rattle.sv_workload.proofs.JudgeLaws.{Found}
 use Rattle.sv_workload.proofs.LastLaws.{LastFound, front_wrong, front_right, lines_unset, sessions_unset, lines_empty}
 use Rattle.sv_workload.proofs.LoopLaws.{Elements}
 use Rattle.sv_workload.proofs.SessionLaws.{sessions_seen, sessions_judged}

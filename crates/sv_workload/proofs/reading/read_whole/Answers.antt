@@ -1,8 +1,8 @@
-use Rattle.std.proofs.Common.{◌≡◌, ◌∙◌, ◌-◌, length, drop, Ok, Err, sym, ap, subst}
+use Rattle.std.proofs.Common.{◌≡◌, ◌∙◌, length, Err, sym, ap, subst}
 use Rattle.sv_app.specs.declared.refusals.Stop.TheVariants.{Refused}
 use Rattle.sv_app.specs.Schema.{schema_of}
 use Rattle.sv_app.specs.Trees.{transactions_of}
-use Rattle.sv_workload.specs.Documents.{AreParts, IsAnswer}
+use Rattle.sv_workload.specs.Documents.{AreParts}
 use Rattle.sv_workload.specs.Stops.{InitKept, LastKept, LastStops}
 use Rattle.sv_workload.proofs.DocumentLaws.{bare_read, bare_all, no_answer, ok_map, ok_at, last_answer, stopped, refused}
 use Rattle.sv_workload.proofs.FrontDocumentLaws.{last_read, last_all, last_stopped, last_refused}
