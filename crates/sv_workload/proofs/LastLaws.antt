@@ -120,10 +120,6 @@ pub lines_empty : (ls : List Line) (l : List Token) → l ≡ [] → many line l
 lines_empty [] l e is = refl
 lines_empty (x ∷ ls) l e is = absurd (line_some x (subst (λ y. line x y) (front_empty is.front is.back (sym e ∙ is.whole)) is.first))
 
-pub sessions_empty : (ss : List Session) (l : List Token) → l ≡ [] → many session ss l → ss ≡ []
-sessions_empty [] l e is = refl
-sessions_empty (x ∷ ss) l e is = absurd (session_some x (subst (λ y. session x y) (front_empty is.front is.back (sym e ∙ is.whole)) is.first))
-
 code_some : (code : Code) → 1 ≤ number_of code
 code_some Syntax = omega arith
 code_some Unknown = omega arith
