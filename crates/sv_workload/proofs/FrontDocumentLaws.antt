@@ -45,7 +45,7 @@ init_front : (tokens : List Token) (rows : List Row) (rest : List Token) → Are
 init_front tokens _ _ (NoInit begins) = ([], refl)
 init_front tokens _ _ (Init rows front rest whole is ends) = (front, whole)
 
-head_some : (head : PartHead) (tokens front rest : List Token) → tokens ≡ [] → tokens ≡ front ++ rest → part_head head front → ⊥
+pub head_some : (head : PartHead) (tokens front rest : List Token) → tokens ≡ [] → tokens ≡ front ++ rest → part_head head front → ⊥
 head_some ReplayHead tokens front rest e w is = let bad : [] ≡ is.first.token ∷ (is.back ++ rest) = sym e ∙ w ∙ ap (λ l. l ++ rest) (is.whole ∙ ap (λ l. l ++ is.back) is.first.only) in absurd cc
 head_some RunHead tokens front rest e w is = let bad : [] ≡ is.first.token ∷ (is.back ++ rest) = sym e ∙ w ∙ ap (λ l. l ++ rest) (is.whole ∙ ap (λ l. l ++ is.back) is.first.only) in absurd cc
 
@@ -64,16 +64,16 @@ module _ (schema : List Declaration) (txns : List Transaction) where
   front_last RunHead settings tokens front more w is are = record { front = front; back = more ++ []; whole = w; first = is; then = record { front = more; back = []; whole = refl; first = are; then = refl } }
 
   module _ (tokens : List Token) (rows : List InitRow) (left : ℕ) (is : InitKept schema tokens rows left) where
-    abbrev rest_here : List Token
+    abbrev pub rest_here : List Token
     rest_here = drop (length tokens - left) tokens
 
-    k : Kept schema tokens rows left
+    pub k : Kept schema tokens rows left
     k = kept schema tokens rows left is.read
 
-    same_rest : rest_here ≡ k.rest
+    pub same_rest : rest_here ≡ k.rest
     same_rest = let f = init_front tokens k.written k.rest k.are in ap (λ n. drop (length tokens - n) tokens) (sym k.count) ∙ suffix_at tokens f.0 k.rest f.1
 
-    same_count : length rows ≡ length k.written
+    pub same_count : length rows ≡ length k.written
     same_count = ap length k.made ∙ length-map k.written (init_row schema)
 
     pub last_read : (parts : Parts) → FrontKept rows rest_here parts → AreParts schema txns tokens parts
@@ -101,7 +101,7 @@ module _ (schema : List Declaration) (txns : List Transaction) where
 
     -- what stands there is what was read
 
-    right_here : (parts : Parts) (are : AreParts schema txns tokens parts) → AreNone (LastRefused schema txns (length rows) k.rest)
+    pub right_here : (parts : Parts) (are : AreParts schema txns tokens parts) → AreNone (LastRefused schema txns (length rows) k.rest)
     right_here parts are =
         let same = same_init schema txns tokens rows left k are.rows are.rest are.init.read.are in
         let counts : length are.rows ≡ length rows = sym (ap length same.0 ∙ length-map are.rows (init_row schema)) in

@@ -161,7 +161,7 @@ module _ (schema : List Declaration) (txns : List Transaction) (count : ℕ) (to
     second = record { head = state settings; middle = rest; first = t.settings_are; second = record { sites = n; is = e; made = refl; rests = refl } };
   }
 
-  siteless : (head : PartHead) (settings : List (Setting × ℕ)) (rest : List Token) → Through head settings rest → last.given Sites settings ≡ None → FrontRefused count tokens Syntax rest
+  pub siteless : (head : PartHead) (settings : List (Setting × ℕ)) (rest : List Token) → Through head settings rest → last.given Sites settings ≡ None → FrontRefused count tokens Syntax rest
   siteless head settings rest t e = InSecond head t.middle t.head_is (InSecond (state settings) rest t.settings_are (record { none = e; syntax = refl; place = refl }))
 
   pub record LastFound (fault : Fault) : Type 0 where

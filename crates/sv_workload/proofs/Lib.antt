@@ -25,3 +25,5 @@ pub mod LongTurnLaws
 pub mod NumberMarkLaws
 pub mod LineMarkLaws
 pub mod LineTurnLaws
+pub mod ReplayLaws
+pub mod ReplayDocumentLaws

@@ -9,3 +9,4 @@ pub mod Rows
 pub mod Stops
 pub mod Written
 pub mod LineReading
+pub mod ReplayStops
