@@ -27,3 +27,4 @@ pub mod LineMarkLaws
 pub mod LineTurnLaws
 pub mod ReplayLaws
 pub mod ReplayDocumentLaws
+pub mod LastPartLaws

@@ -7,11 +7,14 @@ ghost use Rattle.sv_app.specs.Trees.{transactions_of};
 ghost use Rattle.sv_workload.specs.declared.parts.Parts.{Parts as AnyParts};
 ghost use Rattle.sv_workload.specs.declared.parts.Work.TheVariants.{Nothing};
 ghost use Rattle.sv_workload.specs.Documents.{AreParts, IsRefused, IsAnswer};
-ghost use Rattle.sv_workload.specs.Reading.{IsBounded};
+ghost use Rattle.sv_workload.specs.declared.written.PartHead.TheVariants.{Replay as IsReplay};
+ghost use Rattle.sv_workload.specs.Reading.{front_from, IsBounded};
+ghost use Rattle.sv_workload.specs.ReplayStops.{sites_in, work_parts, ReplayKept, ReplayStops, LastKept, LastStops};
 ghost use Rattle.sv_workload.specs.Stops.{head_work, set_parts, FrontKept, FrontStops};
 
 use crate::checked::{read_init, refusal_of};
 use crate::parts::{Parts, Work};
+use crate::replays::steps;
 use crate::settings::front;
 use crate::written::{Given, PartHead};
 use std::alloc::Global;
@@ -50,17 +53,26 @@ fn head_work(alloc: Global, head: PartHead) -> Work
     }
 }
 
-/// Parts with these settings, and without steps and sessions.
-fn set_parts(alloc: Global, init: List<InitRow>, head: PartHead, given: &Given) -> Parts
+/// The number of sites.
+fn sites_in(given: &Given) -> u64
+    requires { IsBounded given.now }
+    ensures value { result ≡ sites_in given.now }
+    ensures few { result ≤ 8 }
+{
+    match given.sites {
+        Some(number) => number,
+        None => 1,
+    }
+}
+
+/// Parts with these settings and this work.
+fn work_parts(init: List<InitRow>, given: &Given, work: Work) -> Parts
     requires few { length init ≤ 4096 }
     requires bounded { IsBounded given.now }
-    ensures { result ≡ set_parts init head given.now }
+    ensures { result ≡ work_parts init given.now work }
 {
     Parts {
-        sites: match given.sites {
-            Some(number) => number as u8,
-            None => 1,
-        },
+        sites: sites_in(given) as u8,
         rows: match given.rows {
             Some(number) => number as u32,
             None => init.len().max(DEFAULT_ROWS) as u32,
@@ -69,9 +81,18 @@ fn set_parts(alloc: Global, init: List<InitRow>, head: PartHead, given: &Given) 
             Some(number) => number as u32,
             None => DEFAULT_CHANGES,
         },
-        work: head_work(alloc, head),
+        work,
         init,
     }
+}
+
+/// Parts with these settings, and without steps and sessions.
+fn set_parts(alloc: Global, init: List<InitRow>, head: PartHead, given: &Given) -> Parts
+    requires few { length init ≤ 4096 }
+    requires bounded { IsBounded given.now }
+    ensures { result ≡ set_parts init head given.now }
+{
+    work_parts(init, given, head_work(alloc, head))
 }
 
 /// The last of these tokens.
@@ -81,18 +102,55 @@ fn behind(tokens: &[Token], left: usize) -> &[Token]
     &tokens[tokens.len().saturating_sub(left)..]
 }
 
-/// Reads a last part without steps and sessions, behind these initial rows. Steps and sessions aren't read yet: they are
-/// answered as want of memory.
-fn read_last(alloc: Global, init: List<InitRow>, tokens: &[Token], end: Spot) -> Result<Parts, Stop>
+/// Reads the steps of a replay, of which the head and the settings were read.
+fn read_replay(
+    alloc: Global,
+    app: &App,
+    init: List<InitRow>,
+    given: &Given,
+    rest: &[Token],
+    tokens: &[Token],
+    end: Spot,
+) -> Result<Parts, Stop>
     requires few { length init ≤ 4096 }
-    ensures read { IfOk result (λ parts. FrontKept init tokens.now parts) }
-    ensures refused { (refusal : IsRefusal) → result ≡ Err (Refused refusal) → FrontStops (length init) tokens.now end refusal }
+    requires bounded { IsBounded given.now }
+    requires tables { length app.now.tables.items ≤ 16 }
+    requires txns { length app.now.txns.items ≤ 32 }
+    requires front { front_from (length init) tokens.now ≡ Ok ((IsReplay, given.now), rest.now) }
+    ensures read { IfOk result (λ parts. ReplayKept (schema_of app.now.tables.items) (transactions_of app.now.txns.items) init tokens.now parts) }
+    ensures refused { (refusal : IsRefusal) → result ≡ Err (Refused refusal) → ReplayStops (schema_of app.now.tables.items) (transactions_of app.now.txns.items) (length init) tokens.now end refusal }
+{
+    let mut reader = Reader { rest };
+    match steps(alloc, &mut reader, app, sites_in(given)) {
+        Ok(all) => Ok(work_parts(init, given, Work::Replay(all.steps))),
+        Err(Halt::Faulty(fault)) => Err(Stop::Refused(refusal_of(tokens, end, fault))),
+        Err(Halt::NoMemory) => Err(Stop::NoMemory),
+    }
+}
+
+/// Reads a last part without sessions, behind these initial rows. Sessions aren't read yet: they are answered as want of
+/// memory.
+fn read_last(
+    alloc: Global,
+    app: &App,
+    init: List<InitRow>,
+    tokens: &[Token],
+    end: Spot,
+) -> Result<Parts, Stop>
+    requires few { length init ≤ 4096 }
+    requires tables { length app.now.tables.items ≤ 16 }
+    requires txns { length app.now.txns.items ≤ 32 }
+    ensures read { IfOk result (λ parts. LastKept (schema_of app.now.tables.items) (transactions_of app.now.txns.items) init tokens.now parts) }
+    ensures refused { (refusal : IsRefusal) → result ≡ Err (Refused refusal) → LastStops (schema_of app.now.tables.items) (transactions_of app.now.txns.items) (length init) tokens.now end refusal }
 {
     let mut reader = Reader { rest: tokens };
     match front(&mut reader, init.len()) {
-        Ok((head, given)) => {
+        Ok((PartHead::Replay, given)) => {
+            read_replay(alloc, app, init, &given, reader.rest, tokens, end)
+        }
+        Ok((PartHead::Run, given)) => {
             if reader.rest.is_empty() {
-                Ok(set_parts(alloc, init, head, &given))
+                Ok(set_parts(alloc, init, PartHead::Run, &given))
             } else {
                 Err(Stop::NoMemory)
             }
@@ -114,7 +172,7 @@ fn read_whole(alloc: Global, app: &App, tokens: &[Token], end: Spot) -> Result<P
             if left == 0 {
                 return Ok(bare_parts(init));
             }
-            read_last(alloc, init, behind(tokens, left), end)
+            read_last(alloc, app, init, behind(tokens, left), end)
         }
         Err(stop) => Err(stop),
     }
