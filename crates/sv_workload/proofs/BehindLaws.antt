@@ -1,6 +1,5 @@
 -- What stands behind the head and the settings of a last part, and what is refused there.
 use Rattle.std.proofs.Common.{◌≡◌, ◌∙◌, ℕ, false, List, [], ◌++◌, Option, Some, None, Ok, refl, sym, ap, subst, append_assoc}
-use Rattle.std.specs.Option.{unwrap_or}
 use Rattle.sv_lex.specs.declared.tokens.Token.{Token}
 use Rattle.sv_app.specs.declared.refusals.Code.{Code}
 use Rattle.sv_app.specs.declared.refusals.Code.TheVariants.{Syntax}
@@ -17,15 +16,13 @@ use Rattle.sv_workload.specs.Grammar.{many, setting, line, session}
 use Rattle.sv_workload.specs.LastRefused.{BeginsSetting, part_head, LineRefused, SessionRefused, LastRefused, NoPart, InSettings, NoSites, InLines, InSessions}
 use Rattle.sv_workload.specs.LastRefused as last
 use Rattle.sv_workload.specs.Reading.{front_from, begins_setting}
+use Rattle.sv_workload.specs.Stops.{sites_in}
 use Rattle.sv_workload.proofs.FrontLaws.{FrontIs, FrontRefused, front_judged, setting_none}
 use Rattle.sv_workload.proofs.InitLaws.{contra}
 use Rattle.sv_workload.proofs.JudgeLaws.{InFirst, InSecond}
 use Rattle.sv_workload.proofs.LastLaws.{Through, through, sited, siteless}
 use Rattle.sv_workload.proofs.MarkLaws.{Misplaced}
 use Rattle.sv_workload.proofs.SettingLaws.{state, set_begins}
-
-abbrev pub sites_of : Given → ℕ
-sites_of g = unwrap_or g.sites 1
 
 module _ (schema : List Declaration) (txns : List Transaction) (count : ℕ) (tokens : List Token) where
   -- the head and the settings at the front of the tokens
@@ -87,29 +84,29 @@ module _ (schema : List Declaration) (txns : List Transaction) (count : ℕ) (to
   -- where the front is read, this is all that is refused
 
   pub behind_in : (head : PartHead) (g : Given) (rest : List Token) → front_from count tokens ≡ Ok ((head, g), rest)
-      → (code : Code) (here : List Token) → BehindRefused head (sites_of g) rest code here → LastRefused schema txns count tokens code here
+      → (code : Code) (here : List Token) → BehindRefused head (sites_in g) rest code here → LastRefused schema txns count tokens code here
   behind_in ReplayHead g rest read code here among = let o = opened ReplayHead g rest read in
       InLines o.settings o.front rest code here o.whole o.is (λ begins. contra (set_begins begins.which rest begins.is) o.ends)
-      (subst (λ n. Among line (LineRefused schema txns n) [] rest code here) (ap sites_of o.made) among)
+      (subst (λ n. Among line (LineRefused schema txns n) [] rest code here) (ap sites_in o.made) among)
   behind_in RunHead g rest read code here among = let o = opened RunHead g rest read in
       InSessions o.settings o.front rest code here o.whole o.is (λ begins. contra (set_begins begins.which rest begins.is) o.ends) among
 
   pub behind_out : (head : PartHead) (g : Given) (rest : List Token) → front_from count tokens ≡ Ok ((head, g), rest)
-      → (code : Code) (here : List Token) → LastRefused schema txns count tokens code here → BehindRefused head (sites_of g) rest code here
+      → (code : Code) (here : List Token) → LastRefused schema txns count tokens code here → BehindRefused head (sites_in g) rest code here
   behind_out head g rest read code here refused = by_case code here refused
     where
       wrong : AreNone (FrontRefused count tokens)
       wrong = (front_judged count tokens).right (head, g) rest read
 
-      by_case : (code : Code) (here : List Token) → LastRefused schema txns count tokens code here → BehindRefused head (sites_of g) rest code here
+      by_case : (code : Code) (here : List Token) → LastRefused schema txns count tokens code here → BehindRefused head (sites_in g) rest code here
       by_case _ _ (NoPart there some is) = absurd (wrong Syntax there (InFirst (Misplaced refl is)))
       by_case _ _ (InSettings h front behind code there w is among) = absurd (wrong code there (InSecond h behind (record { front = front; whole = w; is = is }) (InFirst among)))
       by_case _ _ (NoSites h settings front there w is ends none) =
           absurd (wrong Syntax there (siteless schema txns count tokens h settings there (through schema txns count tokens h settings front there w is (setting_none count tokens there ends)) none))
       by_case _ _ (InLines settings front behind code there w is ends among) =
           let s = only head g rest read ReplayHead settings front behind w is (setting_none count tokens behind ends) in
-          subst (λ h. BehindRefused h (sites_of g) rest code there) (sym s.heads) (subst (λ l. Among line (LineRefused schema txns (sites_of g)) [] l code there) (sym s.rests)
-          (subst (λ n. Among line (LineRefused schema txns n) [] behind code there) (sym (ap sites_of s.givens)) among))
+          subst (λ h. BehindRefused h (sites_in g) rest code there) (sym s.heads) (subst (λ l. Among line (LineRefused schema txns (sites_in g)) [] l code there) (sym s.rests)
+          (subst (λ n. Among line (LineRefused schema txns n) [] behind code there) (sym (ap sites_in s.givens)) among))
       by_case _ _ (InSessions settings front behind code there w is ends among) =
           let s = only head g rest read RunHead settings front behind w is (setting_none count tokens behind ends) in
-          subst (λ h. BehindRefused h (sites_of g) rest code there) (sym s.heads) (subst (λ l. Among session (SessionRefused txns) [] l code there) (sym s.rests) among)
+          subst (λ h. BehindRefused h (sites_in g) rest code there) (sym s.heads) (subst (λ l. Among session (SessionRefused txns) [] l code there) (sym s.rests) among)

@@ -59,10 +59,10 @@ module _ (schema : List Declaration) (txns : List Transaction) where
     same_count : length rows ≡ length k.written
     same_count = ap length k.made ∙ length-map k.written (init_row schema)
 
-    read_of : (parts : Parts) (f : LastKept txns rows rest_here parts) → LastRead schema txns (length rows) k.rest f.given f.work
-    read_of parts f = last_reads schema txns (length rows) k.rest f.given f.work (ap (last_from txns (length rows)) (sym same_rest) ∙ f.read)
+    read_of : (parts : Parts) (f : LastKept schema txns rows rest_here parts) → LastRead schema txns (length rows) k.rest f.given f.work
+    read_of parts f = last_reads schema txns (length rows) k.rest f.given f.work f.rest (ap (last_from schema txns (length rows)) (sym same_rest) ∙ f.read)
 
-    pub last_read : (parts : Parts) → LastKept txns rows rest_here parts → AreParts schema txns tokens parts
+    pub last_read : (parts : Parts) → LastKept schema txns rows rest_here parts → AreParts schema txns tokens parts
     last_read parts f =
         let read = read_of parts f in
         let l = last_is schema txns (length rows) k.rest f.given f.work read in
@@ -84,7 +84,7 @@ module _ (schema : List Declaration) (txns : List Transaction) where
         let counts : length are.rows ≡ length rows = sym (ap length same.0 ∙ length-map are.rows (init_row schema)) in
         subst (λ l. AreNone (LastRefused schema txns (length rows) l)) (sym same.1) (subst (λ n. AreNone (LastRefused schema txns n are.rest)) counts are.right)
 
-    pub last_all : (found : Parts) → LastKept txns rows rest_here found → (parts : Parts) → AreParts schema txns tokens parts → found ≡ parts
+    pub last_all : (found : Parts) → LastKept schema txns rows rest_here found → (parts : Parts) → AreParts schema txns tokens parts → found ≡ parts
     last_all found f parts are =
         let same = same_init schema txns tokens rows left k are.rows are.rest are.init.read.are in
         let one = last_only schema txns (length rows) k.rest f.given f.work (read_of found f) are.last (subst (λ l. last_part are.last l) (sym same.1) are.is) in
@@ -93,13 +93,13 @@ module _ (schema : List Declaration) (txns : List Transaction) where
     rest_some : left ≢ 0 → k.rest ≢ []
     rest_some some e = some (sym k.count ∙ ap length e)
 
-    found_of : left ≢ 0 → (end : Spot) (refusal : Refusal) (f : LastStops txns (length rows) rest_here end refusal) → LastFound schema txns (length rows) k.rest f.fault
-    found_of some end refusal f = last_wrong schema txns (length rows) k.rest (rest_some some) f.fault (last_fails schema txns (length rows) k.rest f.fault (ap (last_from txns (length rows)) (sym same_rest) ∙ f.read))
+    found_of : left ≢ 0 → (end : Spot) (refusal : Refusal) (f : LastStops schema txns (length rows) rest_here end refusal) → LastFound schema txns (length rows) k.rest f.fault
+    found_of some end refusal f = last_wrong schema txns (length rows) k.rest (rest_some some) f.fault (last_fails schema txns (length rows) k.rest f.fault (ap (last_from schema txns (length rows)) (sym same_rest) ∙ f.read))
 
-    pub last_stopped : left ≢ 0 → (end : Spot) (refusal : Refusal) → LastStops txns (length rows) rest_here end refusal → (parts : Parts) → AreParts schema txns tokens parts → ⊥
+    pub last_stopped : left ≢ 0 → (end : Spot) (refusal : Refusal) → LastStops schema txns (length rows) rest_here end refusal → (parts : Parts) → AreParts schema txns tokens parts → ⊥
     last_stopped some end refusal f parts are = let found = found_of some end refusal f in right_here parts are f.fault.code found.here found.first.is
 
-    pub last_refused : left ≢ 0 → (end : Spot) (refusal : Refusal) → LastStops txns (length rows) rest_here end refusal → IsRefused schema txns tokens end refusal
+    pub last_refused : left ≢ 0 → (end : Spot) (refusal : Refusal) → LastStops schema txns (length rows) rest_here end refusal → IsRefused schema txns tokens end refusal
     last_refused some end refusal f =
         let found = found_of some end refusal f in
         let s = last_suffix schema txns (length rows) k.rest f.fault.code found.here found.first.is in

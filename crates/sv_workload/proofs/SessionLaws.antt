@@ -22,7 +22,8 @@ use Rattle.sv_workload.specs.Elements.{Refusals, Begins, IsMisplaced, Among, Are
 use Rattle.sv_workload.specs.Grammar.{many, session_head, entry, session}
 use Rattle.sv_workload.specs.LastRefused.{BeginsWith, BeginsWord, IsOutside, BeginsCall, EntryRefused, SessionRefused, Misplaced as SessionMisplaced, TooMany, BadNumber, InCalls, NoEnd, total, requests_in}
 use Rattle.sv_workload.specs.Reading.{at_front, or_else, settled, is_out, out_mark, natural_of}
-use Rattle.sv_workload.specs.SessionReading.{entries_from, session_head_at, session_mark, session_head_from, closed, session_from, is_some_left, sessions_from}
+use Rattle.sv_workload.specs.LineReading.{is_more}
+use Rattle.sv_workload.specs.SessionReading.{entries_from, session_head_at, session_mark, session_head_from, closed, session_from, sessions_from}
 use Rattle.sv_workload.specs.Written.{Session}
 use Rattle.sv_workload.proofs.EntryLaws.{begins_call, call_begins, entry_steps}
 use Rattle.sv_workload.proofs.InitLaws.{contra}
@@ -387,17 +388,17 @@ module _ (txns : List Transaction) where
   session_some : (s : Session) → session s [] → ⊥
   session_some s is = let bad : [] ≡ is.first.first.token ∷ (is.first.back ++ is.back) = is.whole ∙ ap (λ l. l ++ is.back) (is.first.whole ∙ ap (λ l. l ++ is.first.back) is.first.first.only) in absurd cc
 
-  session_opens : (s : Session) (front rest : List Token) → session s front → is_some_left (front ++ rest) ≡ true
+  session_opens : (s : Session) (front rest : List Token) → session s front → is_more (front ++ rest) ≡ true
   session_opens s [] rest is = absurd (session_some s is)
   session_opens s (token ∷ front) rest is = refl
 
-  judges : (before : List Session) (tokens : List Token) → is_some_left tokens ≡ true
+  judges : (before : List Session) (tokens : List Token) → is_more tokens ≡ true
       → Judged (Element session tokens) (SessionRefused txns before tokens) tokens (session_from txns (length (sessions_seen before)) (total length (sessions_seen before)) tokens)
   judges before [] e = absurd cc
   judges before (token ∷ others) e =
       session_judged (length (sessions_seen before)) (total length (sessions_seen before)) token others before (length-map before seen) (total_seen before)
 
-  pub session_shrinks : (index count : ℕ) (tokens : List Token) (s : Session) (rest : List Token) → is_some_left tokens ≡ true → session_from txns index count tokens ≡ Ok (s, rest) → length rest < length tokens
+  pub session_shrinks : (index count : ℕ) (tokens : List Token) (s : Session) (rest : List Token) → is_more tokens ≡ true → session_from txns index count tokens ≡ Ok (s, rest) → length rest < length tokens
   session_shrinks index count [] s rest t e = absurd cc
   session_shrinks index count (token ∷ others) s rest t e = by_element (session_in index count token others s rest ((parts_judged index count token others).took s rest e))
     where
@@ -408,14 +409,14 @@ module _ (txns : List Transaction) where
       by_element : Element session (token ∷ others) s rest → length rest < length (token ∷ others)
       by_element e = by_front e.front e.is e.whole
 
-  session_stops : (before : List Session) (tokens : List Token) → is_some_left tokens ≡ false → AreNone (SessionRefused txns before tokens)
+  session_stops : (before : List Session) (tokens : List Token) → is_more tokens ≡ false → AreNone (SessionRefused txns before tokens)
   session_stops before (token ∷ others) t code here refused = absurd cc
   session_stops before [] t code here refused = session_none txns before code here refused
 
   abbrev pub session_read : List (List Request) → List Token → Read Session
   session_read sessions tokens = session_from txns (length sessions) (total length sessions) tokens
 
-  pub session_steps : Steps is_some_left session_read (λ sessions s. sessions ++ seen s ∷ []) sessions_seen session (SessionRefused txns)
+  pub session_steps : Steps is_more session_read (λ sessions s. sessions ++ seen s ∷ []) sessions_seen session (SessionRefused txns)
   session_steps = record {
     judges = judges;
     shrinks = λ sessions tokens s rest t e. session_shrinks (length sessions) (total length sessions) tokens s rest t e;
@@ -429,5 +430,5 @@ module _ (txns : List Transaction) where
       map_push [] s = refl
       map_push (x ∷ before) s = ap (λ l. seen x ∷ l) (map_push before s)
 
-  pub sessions_judged : (tokens : List Token) → Judged (Elements is_some_left sessions_seen session [] tokens) (Among session (SessionRefused txns) [] tokens) tokens (sessions_from txns [] tokens)
+  pub sessions_judged : (tokens : List Token) → Judged (Elements is_more sessions_seen session [] tokens) (Among session (SessionRefused txns) [] tokens) tokens (sessions_from txns [] tokens)
   sessions_judged tokens = judged_loop session_steps [] tokens

@@ -15,7 +15,8 @@ use Rattle.sv_workload.specs.declared.written.Call.{Call}
 use Rattle.sv_workload.specs.Documents.{request_of}
 use Rattle.sv_workload.specs.LastRefused.{total}
 use Rattle.sv_workload.specs.Reading.{as_item, at_front, settled, call_mark}
-use Rattle.sv_workload.specs.SessionReading.{entry_at, sooner, crowd_mark, entry_mark, entry_from, entries_from, requests_from, session_head_from, closed, session_from, session_requests, is_some_left, sessions_from}
+use Rattle.sv_workload.specs.LineReading.{is_more}
+use Rattle.sv_workload.specs.SessionReading.{entry_at, sooner, crowd_mark, entry_mark, entry_from, entries_from, requests_from, session_head_from, closed, session_from, session_requests, sessions_from}
 use Rattle.sv_workload.proofs.EntryLaws.{entry_shrinks, entry_steps}
 use Rattle.sv_workload.proofs.LoopLaws.{keep, more, fault, end}
 use Rattle.sv_workload.proofs.SessionLaws.{seen, session_shrinks, session_steps}
@@ -129,22 +130,22 @@ module _ (txns : List Transaction) where
       by_head (Ok (n, rest)) = ap (λ (found : Read (List Request)). found >>= λ rs r2. closed rs r2) (requests_seen count [] rest) ∙ by_calls n (entries_from txns count [] rest)
 
   pub sessions_more : (sessions : List (List Request)) (tokens : List Token) (requests : List Request) (rest : List Token)
-      → is_some_left tokens ≡ true → session_requests txns (length sessions) (total length sessions) tokens ≡ Ok (requests, rest) → sessions_from txns sessions tokens ≡ sessions_from txns (sessions ++ requests ∷ []) rest
+      → is_more tokens ≡ true → session_requests txns (length sessions) (total length sessions) tokens ≡ Ok (requests, rest) → sessions_from txns sessions tokens ≡ sessions_from txns (sessions ++ requests ∷ []) rest
   sessions_more sessions tokens requests rest t e =
       let b = before (seen txns) (session_from txns (length sessions) (total length sessions) tokens) requests rest (sym (session_seen (length sessions) (total length sessions) tokens) ∙ e) in
       more (session_steps txns) sessions tokens b.item rest t b.is ∙ ap (λ x. sessions_from txns (sessions ++ x ∷ []) rest) (sym b.made)
 
   pub sessions_less : (index count : ℕ) (tokens : List Token) (requests : List Request) (rest : List Token)
-      → is_some_left tokens ≡ true → session_requests txns index count tokens ≡ Ok (requests, rest) → length rest < length tokens
+      → is_more tokens ≡ true → session_requests txns index count tokens ≡ Ok (requests, rest) → length rest < length tokens
   sessions_less index count tokens requests rest t e =
       let b = before (seen txns) (session_from txns index count tokens) requests rest (sym (session_seen index count tokens) ∙ e) in session_shrinks txns index count tokens b.item rest t b.is
 
   pub sessions_err : (sessions : List (List Request)) (tokens : List Token) (f : Fault)
-      → is_some_left tokens ≡ true → session_requests txns (length sessions) (total length sessions) tokens ≡ Err f → sessions_from txns sessions tokens ≡ Err f
+      → is_more tokens ≡ true → session_requests txns (length sessions) (total length sessions) tokens ≡ Err f → sessions_from txns sessions tokens ≡ Err f
   sessions_err sessions tokens f t e = fault (session_steps txns) sessions tokens f t
       (before_err (seen txns) (session_from txns (length sessions) (total length sessions) tokens) f (sym (session_seen (length sessions) (total length sessions) tokens) ∙ e))
 
-  pub sessions_end : (sessions : List (List Request)) (tokens : List Token) → is_some_left tokens ≡ false → sessions_from txns sessions tokens ≡ Ok (sessions, tokens)
+  pub sessions_end : (sessions : List (List Request)) (tokens : List Token) → is_more tokens ≡ false → sessions_from txns sessions tokens ≡ Ok (sessions, tokens)
   sessions_end sessions tokens t = end (session_steps txns) sessions tokens t
 
 pub total_push : (sessions : List (List Request)) (requests : List Request) → total length (sessions ++ requests ∷ []) ≡ total length sessions + length requests

@@ -12,6 +12,7 @@ use Rattle.sv_workload.specs.declared.written.Call.{Call}
 use Rattle.sv_workload.specs.Documents.{request_of}
 use Rattle.sv_workload.specs.LastRefused.{total}
 use Rattle.sv_workload.specs.Reading.{settled, at_front, or_else, count_at, out_mark, call_at, closing, call_mark}
+use Rattle.sv_workload.specs.LineReading.{is_more}
 use Rattle.sv_workload.specs.Written.{Session}
 
 -- a call and ";"
@@ -69,12 +70,7 @@ session_from txns index count tokens = session_head_from index tokens >>= λ n r
 unfoldable pub session_requests : List Transaction → ℕ → ℕ → List Token → Read (List Request)
 session_requests txns index count tokens = session_head_from index tokens >>= λ n r1. requests_from txns count [] r1 >>= λ requests r2. closed requests r2
 
--- whether a token stands here
-abbrev pub is_some_left : List Token → Bool
-is_some_left [] = false
-is_some_left (token ∷ others) = true
-
 -- all sessions, up to the end
 abbrev pub sessions_from : List Transaction → List (List Request) → List Token → Read (List (List Request))
-sessions_from txns = turns_at is_some_left (λ sessions tokens. session_from txns (length sessions) (total length sessions) tokens >>= λ s r. Ok (sessions ++ map (request_of txns) s.calls ∷ [], r))
+sessions_from txns = turns_at is_more (λ sessions tokens. session_from txns (length sessions) (total length sessions) tokens >>= λ s r. Ok (sessions ++ map (request_of txns) s.calls ∷ [], r))
     (λ sessions tokens. Ok (sessions, tokens))

@@ -18,6 +18,7 @@ mod values;
 mod written;
 
 pub use parts::{Parts, Step, Work};
+pub use reading::read_parts;
 pub use written::{Call, Color, Given, PartHead, Row, Setting, Verb};
 
 #[cfg(test)]

@@ -9,15 +9,16 @@ ghost use Rattle.sv_workload.specs.declared.parts.Parts.{Parts as AnyParts};
 ghost use Rattle.sv_workload.specs.declared.parts.Work.TheVariants.{Nothing};
 ghost use Rattle.sv_workload.specs.Documents.{AreParts, IsRefused, IsAnswer};
 ghost use Rattle.sv_workload.specs.Reading.{IsBounded};
-ghost use Rattle.sv_workload.specs.Stops.{work_from, last_from, set_parts, LastKept, LastStops};
+ghost use Rattle.sv_workload.specs.Stops.{sites_in, work_from, last_from, set_parts, LastKept, LastStops};
 
 use crate::checked::{read_init, refusal_of};
 use crate::parts::{Parts, Work};
+use crate::replays::steps;
 use crate::sessions::sessions;
 use crate::settings::front;
 use crate::written::{Given, PartHead};
 use std::alloc::Global;
-use sv_app::{App, InitRow, Stop, Txn};
+use sv_app::{App, InitRow, Stop};
 use sv_lex::Token;
 use sv_schema_reader::{Halt, Reader};
 use sv_value::{List, Spot};
@@ -42,6 +43,18 @@ fn bare_parts(init: List<InitRow>) -> Parts
     }
 }
 
+/// The number of sites that is set.
+fn sites_in(given: &Given) -> u64
+    requires { IsBounded given.now }
+    ensures value { result ≡ sites_in given.now }
+    ensures few { result ≤ 8 }
+{
+    match given.sites {
+        Some(number) => number,
+        None => 1,
+    }
+}
+
 /// Parts with these settings and this work.
 fn set_parts(init: List<InitRow>, given: &Given, work: Work) -> Parts
     requires few { length init ≤ 4096 }
@@ -49,10 +62,7 @@ fn set_parts(init: List<InitRow>, given: &Given, work: Work) -> Parts
     ensures { result ≡ set_parts init given.now work }
 {
     Parts {
-        sites: match given.sites {
-            Some(number) => number as u8,
-            None => 1,
-        },
+        sites: sites_in(given) as u8,
         rows: match given.rows {
             Some(number) => number as u32,
             None => init.len().max(DEFAULT_ROWS) as u32,
@@ -73,14 +83,21 @@ fn behind(tokens: &[Token], left: usize) -> &[Token]
     &tokens[tokens.len().saturating_sub(left)..]
 }
 
-/// Reads what is to be done. Steps aren't read yet.
-fn work(alloc: Global, reader: &mut Reader<'_>, txns: &[Txn], head: PartHead) -> Result<Work, Halt>
-    requires few { length txns.now ≤ 32 }
-    ensures { Reads (λ work. work) result reader.new.rest.now (work_from (transactions_of txns.now) head reader.old.rest.now) }
+/// Reads what is to be done, for so many sites.
+fn work(
+    alloc: Global,
+    reader: &mut Reader<'_>,
+    app: &App,
+    head: PartHead,
+    sites: u64,
+) -> Result<Work, Halt>
+    requires accepted { AcceptedApp (schema_of app.now.tables.items) (transactions_of app.now.txns.items) }
+    requires sites { sites ≤ 8 }
+    ensures { Reads (λ work. work) result reader.new.rest.now (work_from (schema_of app.now.tables.items) (transactions_of app.now.txns.items) head sites reader.old.rest.now) }
 {
     match head {
-        PartHead::Replay => Ok(Work::Replay(List::new(alloc))),
-        PartHead::Run => Ok(Work::Sessions(sessions(alloc, reader, txns)?)),
+        PartHead::Replay => Ok(Work::Replay(steps(alloc, reader, app, sites)?.steps)),
+        PartHead::Run => Ok(Work::Sessions(sessions(alloc, reader, &app.txns)?)),
     }
 }
 
@@ -89,19 +106,19 @@ fn work(alloc: Global, reader: &mut Reader<'_>, txns: &[Txn], head: PartHead) ->
 fn last(
     alloc: Global,
     reader: &mut Reader<'_>,
-    txns: &[Txn],
+    app: &App,
     rows: usize,
 ) -> Result<(Given, Work), Halt>
-    requires few { length txns.now ≤ 32 }
-    ensures read { Reads (λ last. last) result reader.new.rest.now (last_from (transactions_of txns.now) rows reader.old.rest.now) }
+    requires accepted { AcceptedApp (schema_of app.now.tables.items) (transactions_of app.now.txns.items) }
+    ensures read { Reads (λ last. last) result reader.new.rest.now (last_from (schema_of app.now.tables.items) (transactions_of app.now.txns.items) rows reader.old.rest.now) }
     ensures bounded { IfOk result (λ last. IsBounded last.0) }
 {
     let (head, given) = front(reader, rows)?;
-    let work = work(alloc, reader, txns, head)?;
+    let work = work(alloc, reader, app, head, sites_in(&given))?;
     Ok((given, work))
 }
 
-/// Reads a last part, behind these initial rows. Steps aren't read yet: they are answered as want of memory.
+/// Reads a last part, behind these initial rows.
 fn read_last(
     alloc: Global,
     app: &App,
@@ -111,18 +128,12 @@ fn read_last(
 ) -> Result<Parts, Stop>
     requires few { length init ≤ 4096 }
     requires accepted { AcceptedApp (schema_of app.now.tables.items) (transactions_of app.now.txns.items) }
-    ensures read { IfOk result (λ parts. LastKept (transactions_of app.now.txns.items) init tokens.now parts) }
-    ensures refused { (refusal : IsRefusal) → result ≡ Err (Refused refusal) → LastStops (transactions_of app.now.txns.items) (length init) tokens.now end refusal }
+    ensures read { IfOk result (λ parts. LastKept (schema_of app.now.tables.items) (transactions_of app.now.txns.items) init tokens.now parts) }
+    ensures refused { (refusal : IsRefusal) → result ≡ Err (Refused refusal) → LastStops (schema_of app.now.tables.items) (transactions_of app.now.txns.items) (length init) tokens.now end refusal }
 {
     let mut reader = Reader { rest: tokens };
-    match last(alloc, &mut reader, &app.txns, init.len()) {
-        Ok((given, work)) => {
-            if reader.rest.is_empty() {
-                Ok(set_parts(init, &given, work))
-            } else {
-                Err(Stop::NoMemory)
-            }
-        }
+    match last(alloc, &mut reader, app, init.len()) {
+        Ok((given, work)) => Ok(set_parts(init, &given, work)),
         Err(Halt::Faulty(fault)) => Err(Stop::Refused(refusal_of(tokens, end, fault))),
         Err(Halt::NoMemory) => Err(Stop::NoMemory),
     }
@@ -153,7 +164,7 @@ fn read_whole(alloc: Global, app: &App, tokens: &[Token], end: Spot) -> Result<P
 ///
 /// `Refused` with the first refusal of the initial rows; where there is none, with the first row that breaks an
 /// invariant; and where there is none either, with the first refusal of the last part.
-pub(crate) fn read_parts(
+pub fn read_parts(
     alloc: Global,
     app: &App,
     tokens: &[Token],

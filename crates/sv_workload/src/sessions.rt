@@ -2,8 +2,9 @@ ghost use Rattle.std.specs.Prelude.{◌≡◌, ◌≤◌, ◌+◌, IfOk, length,
 ghost use Rattle.sv_app.specs.Trees.{transactions_of};
 ghost use Rattle.sv_schema_reader.specs.Reading.{Reads};
 ghost use Rattle.sv_workload.specs.Documents.{request_of};
+ghost use Rattle.sv_workload.specs.LineReading.{is_more};
 ghost use Rattle.sv_workload.specs.Reading.{as_item};
-ghost use Rattle.sv_workload.specs.SessionReading.{sooner, crowd_mark, entry_mark, entry_at, entry_from, requests_from, session_mark, session_head_at, session_head_from, session_requests, is_some_left, sessions_from};
+ghost use Rattle.sv_workload.specs.SessionReading.{sooner, crowd_mark, entry_mark, entry_at, entry_from, requests_from, session_mark, session_head_at, session_head_from, session_requests, sessions_from};
 
 use crate::call_marks::{call_mark, txn_place};
 use crate::calls::call;

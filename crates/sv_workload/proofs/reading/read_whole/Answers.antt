@@ -19,17 +19,17 @@ returns-then-left-eq0-clause-all c parts are = c.bare_parts.ensures ∙ bare_all
 
 pub returns-else-left-eq0-clause-read : goal.returns-else-left-eq0-clause-read
 returns-else-left-eq0-clause-read c = ok_map c.read_last.result (λ parts f. last_read (schema_of c.args.app.now.tables.items) (transactions_of c.args.app.now.txns.items) c.args.tokens.now c.in-Ok.init c.in-Ok.left c.in-Ok.ensures.kept parts
-    (subst (λ l. LastKept (transactions_of c.args.app.now.txns.items) c.in-Ok.init l parts) c.behind.ensures f)) c.read_last.ensures.read
+    (subst (λ l. LastKept (schema_of c.args.app.now.tables.items) (transactions_of c.args.app.now.txns.items) c.in-Ok.init l parts) c.behind.ensures f)) c.read_last.ensures.read
 
 pub returns-else-left-eq0-clause-all : goal.returns-else-left-eq0-clause-all
 returns-else-left-eq0-clause-all c parts are = last_answer c.read_last.result parts
-    (λ found e. last_all (schema_of c.args.app.now.tables.items) (transactions_of c.args.app.now.txns.items) c.args.tokens.now c.in-Ok.init c.in-Ok.left c.in-Ok.ensures.kept found (subst (λ l. LastKept (transactions_of c.args.app.now.txns.items) c.in-Ok.init l found) c.behind.ensures (ok_at (λ parts. LastKept (transactions_of c.args.app.now.txns.items) c.in-Ok.init c.behind.result.now parts) c.read_last.result found c.read_last.ensures.read e)) parts are)
+    (λ found e. last_all (schema_of c.args.app.now.tables.items) (transactions_of c.args.app.now.txns.items) c.args.tokens.now c.in-Ok.init c.in-Ok.left c.in-Ok.ensures.kept found (subst (λ l. LastKept (schema_of c.args.app.now.tables.items) (transactions_of c.args.app.now.txns.items) c.in-Ok.init l found) c.behind.ensures (ok_at (λ parts. LastKept (schema_of c.args.app.now.tables.items) (transactions_of c.args.app.now.txns.items) c.in-Ok.init c.behind.result.now parts) c.read_last.result found c.read_last.ensures.read e)) parts are)
     (λ refusal e. last_stopped (schema_of c.args.app.now.tables.items) (transactions_of c.args.app.now.txns.items) c.args.tokens.now c.in-Ok.init c.in-Ok.left c.in-Ok.ensures.kept c.if-left-eq0.false c.args.end refusal
-    (subst (λ l. LastStops (transactions_of c.args.app.now.txns.items) (length c.in-Ok.init) l c.args.end refusal) c.behind.ensures (c.read_last.ensures.refused refusal e)) parts are)
+    (subst (λ l. LastStops (schema_of c.args.app.now.tables.items) (transactions_of c.args.app.now.txns.items) (length c.in-Ok.init) l c.args.end refusal) c.behind.ensures (c.read_last.ensures.refused refusal e)) parts are)
 
 pub returns-else-left-eq0-clause-refused : goal.returns-else-left-eq0-clause-refused
 returns-else-left-eq0-clause-refused c refusal e = last_refused (schema_of c.args.app.now.tables.items) (transactions_of c.args.app.now.txns.items) c.args.tokens.now c.in-Ok.init c.in-Ok.left c.in-Ok.ensures.kept c.if-left-eq0.false c.args.end refusal
-    (subst (λ l. LastStops (transactions_of c.args.app.now.txns.items) (length c.in-Ok.init) l c.args.end refusal) c.behind.ensures (c.read_last.ensures.refused refusal e))
+    (subst (λ l. LastStops (schema_of c.args.app.now.tables.items) (transactions_of c.args.app.now.txns.items) (length c.in-Ok.init) l c.args.end refusal) c.behind.ensures (c.read_last.ensures.refused refusal e))
 
 pub returns-in-Err-clause-all : goal.returns-in-Err-clause-all
 returns-in-Err-clause-all c parts are = no_answer c.in-Err.stop parts (λ refusal e.
