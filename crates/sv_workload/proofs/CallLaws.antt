@@ -23,7 +23,7 @@ use Rattle.sv_workload.proofs.ValueLaws.{integer_law, value_law}
 
 -- no integer, value or argument begins with another mark
 
-integer_mark : (m : IsMark) → is_kind (Mark m) (Mark Minus) ≡ false → (z : ℤ) (front rest : List Token) → IsInteger z front → is_next (Mark m) (front ++ rest) ≡ false
+pub integer_mark : (m : IsMark) → is_kind (Mark m) (Mark Minus) ≡ false → (z : ℤ) (front rest : List Token) → IsInteger z front → is_next (Mark m) (front ++ rest) ≡ false
 integer_mark m apart _ _ rest (PlainInteger n l is) = ap (λ x. is_next (Mark m) (x ++ rest)) is.only ∙ ap (is_kind (Mark m)) is.holds
 integer_mark m apart _ _ rest (Negated n l is) = ap (λ x. is_next (Mark m) (x ++ rest)) (is.whole ∙ ap (λ x. x ++ is.back) is.first.only) ∙ ap (is_kind (Mark m)) is.first.holds ∙ apart
 
@@ -63,7 +63,7 @@ argument_law = same_plain
     out (args.Text t) l is = Right (record { «from» = vals.Text t; is = is; made = refl })
     out (args.Ints ns) l is = Left (record { «from» = ns; is = is; made = refl })
 
-argument_mark : (a : Arg) (front rest : List Token) → argument a front → is_next (Mark RightParen) (front ++ rest) ≡ false
+pub argument_mark : (a : Arg) (front rest : List Token) → argument a front → is_next (Mark RightParen) (front ++ rest) ≡ false
 argument_mark (args.Int z) front rest is = integer_mark RightParen refl z front rest is
 argument_mark (args.Text t) front rest is = ap (λ x. is_next (Mark RightParen) (x ++ rest)) is.only ∙ ap (is_kind (Mark RightParen)) is.holds
 argument_mark (args.Ints ns) front rest is = ap (λ x. is_next (Mark RightParen) (x ++ rest)) (is.whole ∙ ap (λ x. x ++ is.back) is.first.only) ∙ ap (is_kind (Mark RightParen)) is.first.holds

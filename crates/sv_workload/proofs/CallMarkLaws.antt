@@ -28,7 +28,7 @@ use Rattle.sv_workload.specs.Fits.{ArgFits, ArgsFit, CallFits, txn_of}
 use Rattle.sv_workload.specs.Grammar.{listed, IsInteger, argument, call}
 use Rattle.sv_workload.specs.InitRefused.{BeginsName}
 use Rattle.sv_workload.specs.LastRefused.{each_comma, BeginsInteger, IsInList, CallRefused, NoTxn, Unfit, LongList}
-use Rattle.sv_workload.specs.Reading.{arg_fits, args_fit, txn_named, txn_meant, call_code, opening_at, long_call, long_args, long_fault, call_mark, call_at, from_read, at_front}
+use Rattle.sv_workload.specs.Reading.{arg_fits, args_fit, txn_named, txn_meant, call_code, opening_at, long_call, long_args, long_among, long_fault, call_mark, call_at, from_read, at_front}
 use Rattle.sv_workload.proofs.CallLaws.{call_law, argument_law}
 use Rattle.sv_workload.proofs.LongLaws.{InArgs, args_in, FirstLong, first_args, argument_begins, integer_split, Taken, taken, taken_some}
 use Rattle.sv_workload.proofs.MarkLaws.{FirstMark, Marks, Before, marks_or, marks_map}
@@ -189,6 +189,7 @@ record Finds (tokens there : List Token) : Type 0 where
   pub low : length there ≤ length here
 
 finds : (tokens there : List Token) → Opened tokens there → Finds tokens there
+unfolding long_call long_among
 finds tokens there o =
     let first = first_args (suc (length o.rest)) o.inside.args o.rest o.inside.front there o.inside.elements (omega arith) o.inside.whole o.inside.are o.inside.many o.inside.begins in
     record {
@@ -198,6 +199,7 @@ finds tokens there o =
     }
 
 found_opened : (tokens here : List Token) → long_call tokens ≡ Some here → Opened tokens here
+unfolding long_call long_among
 found_opened tokens here e = by_taken (taken_some (opening_at tokens) (λ r. long_args (suc (length r)) r) here e)
   where
     by_taken : Taken (opening_at tokens) (λ r. long_args (suc (length r)) r) here → Opened tokens here
@@ -281,7 +283,7 @@ pub data CallWrong (txns : List Transaction) (tokens : List Token) (code : Code)
 abbrev pub CallAt : List Transaction → List Token → Refusals
 CallAt txns tokens code here = CallWrong txns tokens code × (here ≡ tokens)
 
-name_begins_call : (token : Token) (ident : Ident) → IsName ident token → Begins call (token ∷ [])
+pub name_begins_call : (token : Token) (ident : Ident) → IsName ident token → Begins call (token ∷ [])
 name_begins_call token ident is = record {
   more = token_of (Mark LeftParen) ∷ token_of (Mark RightParen) ∷ [];
   item = record { txn = ident; args = [] };

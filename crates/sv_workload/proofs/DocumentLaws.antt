@@ -75,7 +75,7 @@ front_empty : (front rest : List Token) → [] ≡ front ++ rest → front ≡ [
 front_empty [] rest e = refl
 front_empty (x ∷ front) rest e = absurd cc
 
-no_head : (head : PartHead) (front rest : List Token) → [] ≡ front ++ rest → part_head head front → ⊥
+pub no_head : (head : PartHead) (front rest : List Token) → [] ≡ front ++ rest → part_head head front → ⊥
 no_head head front rest e is = part_some head (subst (λ l. part_head head l) (front_empty front rest e) is)
 
 module _ (schema : List Declaration) (txns : List Transaction) where

@@ -149,7 +149,7 @@ module _ (count : ℕ) (tokens : List Token) where
       (judged_marked head_law tokens (λ code here. ⊥) None (no_marks part_head tokens))
       (λ head middle is. judged_then (λ g r2. with_sites head g g.sites r2) (judged_loop (setting_steps count) [] middle) (λ g rest was. sites_judged head g rest))
 
-  no_setting : (rest : List Token) → begins_setting rest ≡ false → BeginsSetting rest → ⊥
+  pub no_setting : (rest : List Token) → begins_setting rest ≡ false → BeginsSetting rest → ⊥
   no_setting rest t is = contra (set_begins is.which rest is.is) t
 
   pub setting_none : (rest : List Token) → (BeginsSetting rest → ⊥) → begins_setting rest ≡ false

@@ -35,7 +35,7 @@ word_some bytes is = let bad : [] ≡ is.token ∷ [] = is.only in absurd cc
 first_word : (bytes : List ℕ) (Rest : List Token → Type 0) → (word bytes · Rest) [] → ⊥
 first_word bytes Rest is = let bad : [] ≡ is.first.token ∷ is.back = is.whole ∙ ap (λ l. l ++ is.back) is.first.only in absurd cc
 
-line_some : (l : Line) → line l [] → ⊥
+pub line_some : (l : Line) → line l [] → ⊥
 line_some (Ask n c) is = first_word (codes "ask") _ is
 line_some (Order n) is = first_word (codes "order") _ is
 line_some (Deliver n p) is = first_word (codes "deliver") _ is
@@ -64,7 +64,7 @@ word_front bytes Rest front here tokens e w is = first_word bytes Rest (subst (�
 word_alone : (bytes : List ℕ) (front here tokens : List Token) → tokens ≡ [] → tokens ≡ front ++ here → word bytes front → ⊥
 word_alone bytes front here tokens e w is = word_some bytes (subst (λ l. word bytes l) (front_empty front here (sym e ∙ w)) is)
 
-line_none : (schema : List Declaration) (txns : List Transaction) (sites : ℕ) (before : List Line) → AreNone (LineRefused schema txns sites before [])
+pub line_none : (schema : List Declaration) (txns : List Transaction) (sites : ℕ) (before : List Line) → AreNone (LineRefused schema txns sites before [])
 line_none schema txns sites before code here is = by_case code here [] refl is
   where
     by_case : (code : Code) (here tokens : List Token) → tokens ≡ [] → LineRefused schema txns sites before tokens code here → ⊥
@@ -80,7 +80,7 @@ line_none schema txns sites before code here is = by_case code here [] refl is
     by_case _ _ tokens e (last.NoTable at front here table w is begins none) = word_front (codes "show") _ front here tokens e w is
     by_case _ _ tokens e (last.InCall n front rest code here w is refused) = word_front (codes "ask") _ front rest tokens e w is
 
-session_none : (txns : List Transaction) (before : List Session) → AreNone (SessionRefused txns before [])
+pub session_none : (txns : List Transaction) (before : List Session) → AreNone (SessionRefused txns before [])
 session_none txns before code here is = by_case code here [] refl is
   where
     by_case : (code : Code) (here tokens : List Token) → tokens ≡ [] → SessionRefused txns before tokens code here → ⊥
@@ -120,10 +120,6 @@ pub lines_empty : (ls : List Line) (l : List Token) → l ≡ [] → many line l
 lines_empty [] l e is = refl
 lines_empty (x ∷ ls) l e is = absurd (line_some x (subst (λ y. line x y) (front_empty is.front is.back (sym e ∙ is.whole)) is.first))
 
-pub sessions_empty : (ss : List Session) (l : List Token) → l ≡ [] → many session ss l → ss ≡ []
-sessions_empty [] l e is = refl
-sessions_empty (x ∷ ss) l e is = absurd (session_some x (subst (λ y. session x y) (front_empty is.front is.back (sym e ∙ is.whole)) is.first))
-
 code_some : (code : Code) → 1 ≤ number_of code
 code_some Syntax = omega arith
 code_some Unknown = omega arith
@@ -161,7 +157,7 @@ module _ (schema : List Declaration) (txns : List Transaction) (count : ℕ) (to
     second = record { head = state settings; middle = rest; first = t.settings_are; second = record { sites = n; is = e; made = refl; rests = refl } };
   }
 
-  siteless : (head : PartHead) (settings : List (Setting × ℕ)) (rest : List Token) → Through head settings rest → last.given Sites settings ≡ None → FrontRefused count tokens Syntax rest
+  pub siteless : (head : PartHead) (settings : List (Setting × ℕ)) (rest : List Token) → Through head settings rest → last.given Sites settings ≡ None → FrontRefused count tokens Syntax rest
   siteless head settings rest t e = InSecond head t.middle t.head_is (InSecond (state settings) rest t.settings_are (record { none = e; syntax = refl; place = refl }))
 
   pub record LastFound (fault : Fault) : Type 0 where

@@ -12,6 +12,11 @@ pub mod KeptLaws
 pub mod DocumentLaws
 pub mod SuffixLaws
 pub mod SettingLaws
+pub mod EntryLaws
+pub mod SessionLaws
+pub mod SessionTurnLaws
+pub mod BehindLaws
+pub mod WorkLaws
 pub mod FrontLaws
 pub mod LastLaws
 pub mod CallLaws
@@ -20,3 +25,8 @@ pub mod FrontDocumentLaws
 pub mod LineLaws
 pub mod LongLaws
 pub mod CallMarkLaws
+pub mod CallTurnLaws
+pub mod LongTurnLaws
+pub mod NumberMarkLaws
+pub mod LineMarkLaws
+pub mod LineTurnLaws

@@ -31,7 +31,7 @@ chosen {A} written wanted a others x P here more e = by_test (bytes_eq written w
     by_test true t e = let same : a ≡ x = cc in subst P same (here ((bytes_eq-Decides written wanted).0 t))
     by_test false t e = more e
 
-named : {A : Type 0} (meaning : List ℕ → Option A) (spelled : A → List ℕ) → ((bytes : List ℕ) (a : A) → meaning bytes ≡ Some a → bytes ≡ spelled a)
+pub named : {A : Type 0} (meaning : List ℕ → Option A) (spelled : A → List ℕ) → ((bytes : List ℕ) (a : A) → meaning bytes ≡ Some a → bytes ≡ spelled a)
     → (k : TokenKind) (a : A) → by_word meaning k ≡ Some a → k ≡ Name (spelled a)
 named meaning spelled back (Name bytes) a e = ap Name (back bytes a e)
 named meaning spelled back (Number n) a e = absurd cc
@@ -121,7 +121,7 @@ one_closed : {A : Type 0} {P : A → List Token → Type 0} {p : List Token → 
 one_closed {A} {P} {p} f law = same_plain (take_plain (λ a (last : Unit {0}). f a) law (λ a. skip_last anything (Mark Semi) (f a)))
     (λ l tokens m. record { «from» = m.«from».0; is = m.is; made = m.made }) (λ l tokens m. record { «from» = (m.«from», tt); is = m.is; made = m.made })
 
-abbrev Tail : Verb → ℕ → Line → List Token → Type 0
+abbrev pub Tail : Verb → ℕ → Line → List Token → Type 0
 Tail verbs.Ask n = Made (λ c. Ask n c) (λ c. call c · mark Semi)
 Tail verbs.Order n = Made (λ (_ : Unit {0}). Order n) (λ _. mark Semi)
 Tail verbs.Deliver n = Made (λ sent. Deliver n sent) (λ sent. packet sent · mark Semi)
@@ -130,7 +130,7 @@ Tail verbs.Catch n = Made (λ (_ : Unit {0}). Catch n) (λ _. mark Semi)
 Tail verbs.Show n = Made (λ table. Show n table) (λ table. name table · mark Semi)
 Tail verbs.Cut n = Made (λ (_ : Unit {0}). Cut n) (λ _. mark Semi)
 
-tail_law : (v : Verb) (n : ℕ) → Plain anything (Tail v n) (line_tail v n)
+pub tail_law : (v : Verb) (n : ℕ) → Plain anything (Tail v n) (line_tail v n)
 tail_law verbs.Ask n = one_closed (λ c. Ask n c) call_law
 tail_law verbs.Order n = skip_last anything (Mark Semi) (Order n)
 tail_law verbs.Deliver n = one_closed (λ sent. Deliver n sent) packet_law
@@ -142,7 +142,7 @@ tail_law verbs.Cut n = skip_last anything (Mark Semi) (Cut n)
 abbrev Numbered : Verb → Line → List Token → Type 0
 Numbered v = Then number (λ n. Tail v n)
 
-line_join : (v : Verb) (n : ℕ) (l : Line) (front middle back : List Token) → word (verb_word v) front → number n middle → Tail v n l back → line l (front ++ (middle ++ back))
+pub line_join : (v : Verb) (n : ℕ) (l : Line) (front middle back : List Token) → word (verb_word v) front → number n middle → Tail v n l back → line l (front ++ (middle ++ back))
 line_join verbs.Ask n l front middle back w m t = subst (λ x. line x (front ++ (middle ++ back))) (sym t.made)
     (record { front = front; back = middle ++ back; whole = refl; first = w; then = record { front = middle; back = back; whole = refl; first = m; then = t.is } })
 line_join verbs.Order n l front middle back w m t = subst (λ x. line x (front ++ (middle ++ back))) (sym t.made)

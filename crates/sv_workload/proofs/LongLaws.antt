@@ -47,7 +47,7 @@ there_integer (token ∷ rest) e = by_sign (is_kind (Mark Minus) token.kind) ref
     by_sign false s e = by_number (natural_of token.kind) refl e
 
 -- an element and a comma
-comma_law : {A : Type 0} {X : A → List Token → Type 0} {x : List Token → Read A} → Plain anything X x → Plain anything (λ a. X a · mark Comma) (comma_after x)
+pub comma_law : {A : Type 0} {X : A → List Token → Type 0} {x : List Token → Read A} → Plain anything X x → Plain anything (λ a. X a · mark Comma) (comma_after x)
 comma_law {A} {X} {x} law = same_plain (take_plain (λ a (last : Unit {0}). a) law (λ a. skip_last anything (Mark Comma) a))
     (λ a l m. subst (λ y. (X y · mark Comma) l) (sym m.made) m.is) (λ a l is. record { «from» = (a, tt); is = is; made = refl })
 

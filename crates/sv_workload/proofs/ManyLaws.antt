@@ -1,5 +1,6 @@
 -- Lists of elements behind commas, up to any closing mark.
-use Rattle.std.proofs.Common.{◌≡◌, ◌∙◌, ℕ, ◌⊎◌, inl, inr, Bool, true, false, if◌then◌else◌, List, [], ◌∷◌, ◌++◌, length, Ok, Err, refl, sym, ap, subst, append_assoc, append-nil}
+use Rattle.std.proofs.Common.{◌≡◌, ◌∙◌, ℕ, ◌<◌, ◌⊎◌, inl, inr, Bool, true, false, if◌then◌else◌, List, [], ◌∷◌, ◌++◌, length, Ok, Err, refl, sym, ap, subst, append_assoc, append-nil}
+use Rattle.sv_value.specs.declared.spots.Spot.{Spot}
 use Rattle.sv_lex.specs.declared.marks.Mark.TheVariants.{Comma}
 use Rattle.sv_lex.specs.declared.tokens.Token.{Token}
 use Rattle.sv_lex.specs.declared.tokens.TokenKind.{TokenKind}
@@ -10,9 +11,9 @@ use Rattle.sv_schema_reader.specs.Reading.{Read, ◌>>=◌, is_kind, is_next, ki
 use Rattle.sv_schema_reader.proofs.KindLaws.{kind_same}
 use Rattle.sv_schema_reader.proofs.MadeLaws.{Made, both_map, take_last, skip_plain, skip_last}
 use Rattle.sv_schema_reader.proofs.PartLaws.{next_alike, kind_next}
-use Rattle.sv_schema_reader.proofs.ReadLaws.{Stuck, Plain, anything, Then, then_parts, Either, Left, Right, either, same_plain, after}
+use Rattle.sv_schema_reader.proofs.ReadLaws.{Stuck, Plain, anything, Then, then_parts, Either, Left, Right, either, same_plain, after, then_ok, then_err}
 use Rattle.sv_schema_reader.proofs.SideLaws.{only_first, both_assoc, assoc_both}
-use Rattle.sv_schema_reader.proofs.TurnLaws.{Words, Last, More, TurnStuck, TurnOver, Turning, turns_law}
+use Rattle.sv_schema_reader.proofs.TurnLaws.{Words, Last, More, TurnStuck, TurnOver, Turning, turns_law, turn_read, turn_err, end_read, shorter}
 use Rattle.sv_workload.specs.Grammar.{listed}
 use Rattle.sv_workload.specs.Reading.{more_to, listed_to}
 use Rattle.sv_workload.proofs.ElementLaws.{plain_of}
@@ -71,6 +72,23 @@ module _ {A : Type 0} {X : A → List Token → Type 0} {x : List Token → Read
     near_turn = λ s m front rest is. refl;
     near_end = λ l rest is clear. refl;
   }
+
+  -- one turn more of the loop
+
+  pub more_turn : (s : List A) (tokens : List Token) (a : A) (rest : List Token) → is_next (Mark Comma) tokens ≡ true → comma_x tokens ≡ Ok (a, rest) → more_to close x s tokens ≡ more_to close x (s ++ a ∷ []) rest
+  more_turn s tokens a rest t e = turn_read turning s tokens (add s a) rest t (then_ok (λ a r. Ok (add s a, r)) e)
+
+  pub less_turn : (s : List A) (tokens : List Token) (a : A) (rest : List Token) → is_next (Mark Comma) tokens ≡ true → comma_x tokens ≡ Ok (a, rest) → length rest < length tokens
+  less_turn s tokens a rest t e = shorter turning s tokens (add s a) rest t (then_ok (λ a r. Ok (add s a, r)) e)
+
+  pub turn_fault : (s : List A) (tokens : List Token) (fault : Fault) → is_next (Mark Comma) tokens ≡ true → comma_x tokens ≡ Err fault → more_to close x s tokens ≡ Err fault
+  turn_fault s tokens fault t e = turn_err turning s tokens fault t (then_err (λ a r. Ok (add s a, r)) e)
+
+  pub turn_close : (s : List A) (tokens : List Token) (spot : Spot) (r : List Token) → is_next (Mark Comma) tokens ≡ false → kind_at close tokens ≡ Ok (spot, r) → more_to close x s tokens ≡ Ok (s, r)
+  turn_close s tokens spot r t k = end_read turning s tokens t ∙ then_ok (λ _ x. Ok (s, x)) k
+
+  pub turn_close_fault : (s : List A) (tokens : List Token) (fault : Fault) → is_next (Mark Comma) tokens ≡ false → kind_at close tokens ≡ Err fault → more_to close x s tokens ≡ Err fault
+  turn_close_fault s tokens fault t k = end_read turning s tokens t ∙ then_err (λ _ x. Ok (s, x)) k
 
   -- the elements that were added
   abbrev Tail : List A → List Token → Type 0

@@ -380,15 +380,15 @@ module _ (count : ℕ) where
 
 -- what was set keeps its bounds
 
-none_settled : {A : Type 0} (mark : Option Fault) (read : Read A) (a : A) (rest : List Token) → settled mark read ≡ Ok (a, rest) → (mark ≡ None) × (read ≡ Ok (a, rest))
+pub none_settled : {A : Type 0} (mark : Option Fault) (read : Read A) (a : A) (rest : List Token) → settled mark read ≡ Ok (a, rest) → (mark ≡ None) × (read ≡ Ok (a, rest))
 none_settled None read a rest e = (refl, e)
 none_settled (Some fault) read a rest e = absurd cc
 
-second_none : {A : Type 0} (a b : Option A) → or_else a b ≡ None → b ≡ None
+pub second_none : {A : Type 0} (a b : Option A) → or_else a b ≡ None → b ≡ None
 second_none None b e = e
 second_none (Some a) b e = absurd cc
 
-given_false : {A : Type 0} (b : Bool) (a : A) → given b a ≡ None → b ≡ false
+pub given_false : {A : Type 0} (b : Bool) (a : A) → given b a ≡ None → b ≡ false
 given_false true a e = absurd cc
 given_false false a e = refl
 

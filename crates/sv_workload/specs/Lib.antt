@@ -6,5 +6,7 @@ pub mod InitRefused
 pub mod LastRefused
 pub mod Reading
 pub mod Rows
+pub mod SessionReading
 pub mod Stops
 pub mod Written
+pub mod LineReading

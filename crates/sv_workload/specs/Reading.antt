@@ -235,9 +235,13 @@ pub record IsBounded (g : Given) : Type 0 where
   pub rows : (n : ℕ) → g.rows ≡ Some n → n ≤ most_of Rows
   pub changes : (n : ℕ) → g.changes ≡ Some n → n ≤ most_of Changes
 
+-- a comma and an element
+abbrev pub comma_before : {A : Type 0} → (List Token → Read A) → List Token → Read A
+comma_before x tokens = kind_at (Mark Comma) tokens >>= λ _ r. x r
+
 -- elements behind commas up to a closing mark, behind these
 abbrev pub more_to : {A : Type 0} → TokenKind → (List Token → Read A) → List A → List Token → Read (List A)
-more_to close x = turns_at (is_next (Mark Comma)) (λ xs tokens. (kind_at (Mark Comma) tokens >>= λ _ r. x r) >>= λ a r. Ok (xs ++ a ∷ [], r)) (λ xs tokens. kind_at close tokens >>= λ _ r. Ok (xs, r))
+more_to close x = turns_at (is_next (Mark Comma)) (λ xs tokens. comma_before x tokens >>= λ a r. Ok (xs ++ a ∷ [], r)) (λ xs tokens. kind_at close tokens >>= λ _ r. Ok (xs, r))
 
 -- elements up to a closing mark, or none
 abbrev pub listed_to : {A : Type 0} → TokenKind → (List Token → Read A) → List Token → Read (List A)
@@ -326,6 +330,15 @@ abbrev pub long_args : ℕ → List Token → Option (List Token)
 long_args zero tokens = None
 long_args (suc fuel) tokens = or_else (list_long tokens) (from_read (comma_after argument_at tokens) (λ r. long_args fuel r))
 
+-- those of the first such element of the arguments that stand here
+unfoldable pub long_among : List Token → Option (List Token)
+long_among tokens = long_args (suc (length tokens)) tokens
+
+-- how many tokens are left there
+abbrev pub left_of : Option (List Token) → Option ℕ
+left_of None = None
+left_of (Some here) = Some (length here)
+
 abbrev pub arg_fits : Ty → Arg → Bool
 arg_fits types.Int (args.Int n) = true
 arg_fits types.Text (args.Text t) = true
@@ -357,8 +370,8 @@ call_code (Some txn) (Err fault) = None
 abbrev pub opening_at : List Token → Read Ident
 opening_at tokens = name_at tokens >>= λ txn r1. kind_at (Mark LeftParen) r1 >>= λ _ r2. Ok (txn, r2)
 
-abbrev pub long_call : List Token → Option (List Token)
-long_call tokens = from_read (opening_at tokens) (λ r. long_args (suc (length r)) r)
+unfoldable pub long_call : List Token → Option (List Token)
+long_call tokens = from_read (opening_at tokens) (λ r. long_among r)
 
 abbrev pub long_fault : Option (List Token) → Option Fault
 long_fault None = None

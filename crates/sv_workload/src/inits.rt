@@ -24,7 +24,7 @@ fn fault_at(code: Code, left: usize) -> Halt
 }
 
 /// The name that a token is, unless it is a reserved word.
-fn name_of(token: &Token) -> Option<Ident>
+pub fn name_of(token: &Token) -> Option<Ident>
     ensures { result ≡ name_of token.now }
 {
     match &token.kind {
@@ -124,7 +124,7 @@ fn is_percents(token: &Token) -> bool
     }
 }
 
-fn is_word(token: &Token, word: &[u8]) -> bool
+pub fn is_word(token: &Token, word: &[u8]) -> bool
     ensures { result ≡ is_kind (IsName word.now) token.now.kind }
 {
     match &token.kind {

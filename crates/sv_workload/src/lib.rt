@@ -1,11 +1,18 @@
 //! Reads the initial rows of a document and what is to be done with it, or says where and why it is refused.
 #![tactic(auto)]
 
+mod call_marks;
+mod calls;
 mod checked;
 mod inits;
+mod line_marks;
+mod lines;
+mod replays;
+mod longs;
 mod parts;
 mod reading;
 mod rows;
+mod sessions;
 mod settings;
 mod values;
 mod written;
@@ -13,3 +20,6 @@ mod written;
 pub use parts::{Parts, Step, Work};
 pub use reading::read_parts;
 pub use written::{Call, Color, Given, PartHead, Row, Setting, Verb};
+
+#[cfg(test)]
+mod session_tests;

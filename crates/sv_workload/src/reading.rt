@@ -4,14 +4,17 @@ ghost use Rattle.sv_app.specs.declared.refusals.Stop.TheVariants.{Refused};
 ghost use Rattle.sv_app.specs.Accepted.{AcceptedApp};
 ghost use Rattle.sv_app.specs.Schema.{schema_of};
 ghost use Rattle.sv_app.specs.Trees.{transactions_of};
+ghost use Rattle.sv_schema_reader.specs.Reading.{Reads};
 ghost use Rattle.sv_workload.specs.declared.parts.Parts.{Parts as AnyParts};
 ghost use Rattle.sv_workload.specs.declared.parts.Work.TheVariants.{Nothing};
 ghost use Rattle.sv_workload.specs.Documents.{AreParts, IsRefused, IsAnswer};
 ghost use Rattle.sv_workload.specs.Reading.{IsBounded};
-ghost use Rattle.sv_workload.specs.Stops.{head_work, set_parts, FrontKept, FrontStops};
+ghost use Rattle.sv_workload.specs.Stops.{sites_in, work_from, last_from, set_parts, LastKept, LastStops};
 
 use crate::checked::{read_init, refusal_of};
 use crate::parts::{Parts, Work};
+use crate::replays::steps;
+use crate::sessions::sessions;
 use crate::settings::front;
 use crate::written::{Given, PartHead};
 use std::alloc::Global;
@@ -40,27 +43,26 @@ fn bare_parts(init: List<InitRow>) -> Parts
     }
 }
 
-/// What a last part without steps and sessions asks for.
-fn head_work(alloc: Global, head: PartHead) -> Work
-    ensures { result ≡ head_work head }
+/// The number of sites that is set.
+fn sites_in(given: &Given) -> u64
+    requires { IsBounded given.now }
+    ensures value { result ≡ sites_in given.now }
+    ensures few { result ≤ 8 }
 {
-    match head {
-        PartHead::Replay => Work::Replay(List::new(alloc)),
-        PartHead::Run => Work::Sessions(List::new(alloc)),
+    match given.sites {
+        Some(number) => number,
+        None => 1,
     }
 }
 
-/// Parts with these settings, and without steps and sessions.
-fn set_parts(alloc: Global, init: List<InitRow>, head: PartHead, given: &Given) -> Parts
+/// Parts with these settings and this work.
+fn set_parts(init: List<InitRow>, given: &Given, work: Work) -> Parts
     requires few { length init ≤ 4096 }
     requires bounded { IsBounded given.now }
-    ensures { result ≡ set_parts init head given.now }
+    ensures { result ≡ set_parts init given.now work }
 {
     Parts {
-        sites: match given.sites {
-            Some(number) => number as u8,
-            None => 1,
-        },
+        sites: sites_in(given) as u8,
         rows: match given.rows {
             Some(number) => number as u32,
             None => init.len().max(DEFAULT_ROWS) as u32,
@@ -69,7 +71,7 @@ fn set_parts(alloc: Global, init: List<InitRow>, head: PartHead, given: &Given) 
             Some(number) => number as u32,
             None => DEFAULT_CHANGES,
         },
-        work: head_work(alloc, head),
+        work,
         init,
     }
 }
@@ -81,22 +83,57 @@ fn behind(tokens: &[Token], left: usize) -> &[Token]
     &tokens[tokens.len().saturating_sub(left)..]
 }
 
-/// Reads a last part without steps and sessions, behind these initial rows. Steps and sessions aren't read yet: they are
-/// answered as want of memory.
-fn read_last(alloc: Global, init: List<InitRow>, tokens: &[Token], end: Spot) -> Result<Parts, Stop>
+/// Reads what is to be done, for so many sites.
+fn work(
+    alloc: Global,
+    reader: &mut Reader<'_>,
+    app: &App,
+    head: PartHead,
+    sites: u64,
+) -> Result<Work, Halt>
+    requires accepted { AcceptedApp (schema_of app.now.tables.items) (transactions_of app.now.txns.items) }
+    requires sites { sites ≤ 8 }
+    ensures { Reads (λ work. work) result reader.new.rest.now (work_from (schema_of app.now.tables.items) (transactions_of app.now.txns.items) head sites reader.old.rest.now) }
+{
+    match head {
+        PartHead::Replay => Ok(Work::Replay(steps(alloc, reader, app, sites)?.steps)),
+        PartHead::Run => Ok(Work::Sessions(sessions(alloc, reader, &app.txns)?)),
+    }
+}
+
+/// Reads a last part, behind so many initial rows: its settings, and what is to be done.
+#[tactic(auto, unfolding(crate::specs::Stops::last_from))]
+fn last(
+    alloc: Global,
+    reader: &mut Reader<'_>,
+    app: &App,
+    rows: usize,
+) -> Result<(Given, Work), Halt>
+    requires accepted { AcceptedApp (schema_of app.now.tables.items) (transactions_of app.now.txns.items) }
+    ensures read { Reads (λ last. last) result reader.new.rest.now (last_from (schema_of app.now.tables.items) (transactions_of app.now.txns.items) rows reader.old.rest.now) }
+    ensures bounded { IfOk result (λ last. IsBounded last.0) }
+{
+    let (head, given) = front(reader, rows)?;
+    let work = work(alloc, reader, app, head, sites_in(&given))?;
+    Ok((given, work))
+}
+
+/// Reads a last part, behind these initial rows.
+fn read_last(
+    alloc: Global,
+    app: &App,
+    init: List<InitRow>,
+    tokens: &[Token],
+    end: Spot,
+) -> Result<Parts, Stop>
     requires few { length init ≤ 4096 }
-    ensures read { IfOk result (λ parts. FrontKept init tokens.now parts) }
-    ensures refused { (refusal : IsRefusal) → result ≡ Err (Refused refusal) → FrontStops (length init) tokens.now end refusal }
+    requires accepted { AcceptedApp (schema_of app.now.tables.items) (transactions_of app.now.txns.items) }
+    ensures read { IfOk result (λ parts. LastKept (schema_of app.now.tables.items) (transactions_of app.now.txns.items) init tokens.now parts) }
+    ensures refused { (refusal : IsRefusal) → result ≡ Err (Refused refusal) → LastStops (schema_of app.now.tables.items) (transactions_of app.now.txns.items) (length init) tokens.now end refusal }
 {
     let mut reader = Reader { rest: tokens };
-    match front(&mut reader, init.len()) {
-        Ok((head, given)) => {
-            if reader.rest.is_empty() {
-                Ok(set_parts(alloc, init, head, &given))
-            } else {
-                Err(Stop::NoMemory)
-            }
-        }
+    match last(alloc, &mut reader, app, init.len()) {
+        Ok((given, work)) => Ok(set_parts(init, &given, work)),
         Err(Halt::Faulty(fault)) => Err(Stop::Refused(refusal_of(tokens, end, fault))),
         Err(Halt::NoMemory) => Err(Stop::NoMemory),
     }
@@ -114,7 +151,7 @@ fn read_whole(alloc: Global, app: &App, tokens: &[Token], end: Spot) -> Result<P
             if left == 0 {
                 return Ok(bare_parts(init));
             }
-            read_last(alloc, init, behind(tokens, left), end)
+            read_last(alloc, app, init, behind(tokens, left), end)
         }
         Err(stop) => Err(stop),
     }

@@ -15,7 +15,7 @@ use sv_value::{Key, Val};
 /// The most initial rows of a document.
 const MOST_ROWS: usize = 4_096;
 
-fn is_named(name: &Ident, other: &Ident) -> bool
+pub fn is_named(name: &Ident, other: &Ident) -> bool
     ensures { result ≡ is_named name.now other.now }
 {
     name.name.bytes() == other.name.bytes()

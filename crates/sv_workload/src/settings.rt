@@ -102,7 +102,7 @@ fn is_out(least: u64, most: u64, token: &Token) -> bool
 }
 
 /// The fault of a number that stands here outside these bounds.
-fn out_mark(code: Code, least: u64, most: u64, tokens: &[Token]) -> Option<Fault>
+pub fn out_mark(code: Code, least: u64, most: u64, tokens: &[Token]) -> Option<Fault>
     ensures { result ≡ out_mark code least most tokens.now }
 {
     match tokens {

@@ -41,7 +41,7 @@ pub fn count(reader: &mut Reader<'_>) -> Result<u64, Halt>
 
 /// Reads a number with or without a sign.
 #[tactic(auto, unfolding(crate::specs::Reading::integer_at))]
-fn integer(reader: &mut Reader<'_>) -> Result<i64, Halt>
+pub fn integer(reader: &mut Reader<'_>) -> Result<i64, Halt>
     ensures { Reads (λ n. n) result reader.new.rest.now (integer_at reader.old.rest.now) }
 {
     if reader.is_mark(Mark::Minus) {
@@ -54,7 +54,7 @@ fn integer(reader: &mut Reader<'_>) -> Result<i64, Halt>
 
 /// Reads an integer or a text.
 #[tactic(auto, unfolding(crate::specs::Reading::value_at))]
-fn value(reader: &mut Reader<'_>) -> Result<Val, Halt>
+pub fn value(reader: &mut Reader<'_>) -> Result<Val, Halt>
     ensures { Reads (λ value. value) result reader.new.rest.now (value_at reader.old.rest.now) }
 {
     if reader.is_text() {

@@ -1,9 +1,9 @@
-use Rattle.std.proofs.Common.{◌≡◌, ◌∙◌, ◌-◌, length, drop, Ok, Err, sym, ap, subst}
+use Rattle.std.proofs.Common.{◌≡◌, ◌∙◌, length, Err, sym, ap, subst}
 use Rattle.sv_app.specs.declared.refusals.Stop.TheVariants.{Refused}
 use Rattle.sv_app.specs.Schema.{schema_of}
 use Rattle.sv_app.specs.Trees.{transactions_of}
-use Rattle.sv_workload.specs.Documents.{AreParts, IsAnswer}
-use Rattle.sv_workload.specs.Stops.{InitKept, FrontKept, FrontStops}
+use Rattle.sv_workload.specs.Documents.{AreParts}
+use Rattle.sv_workload.specs.Stops.{InitKept, LastKept, LastStops}
 use Rattle.sv_workload.proofs.DocumentLaws.{bare_read, bare_all, no_answer, ok_map, ok_at, last_answer, stopped, refused}
 use Rattle.sv_workload.proofs.FrontDocumentLaws.{last_read, last_all, last_stopped, last_refused}
 use Rattle.sv_workload.proofs.reading.read_whole.Goals as goal
@@ -19,17 +19,17 @@ returns-then-left-eq0-clause-all c parts are = c.bare_parts.ensures ∙ bare_all
 
 pub returns-else-left-eq0-clause-read : goal.returns-else-left-eq0-clause-read
 returns-else-left-eq0-clause-read c = ok_map c.read_last.result (λ parts f. last_read (schema_of c.args.app.now.tables.items) (transactions_of c.args.app.now.txns.items) c.args.tokens.now c.in-Ok.init c.in-Ok.left c.in-Ok.ensures.kept parts
-    (subst (λ l. FrontKept c.in-Ok.init l parts) c.behind.ensures f)) c.read_last.ensures.read
+    (subst (λ l. LastKept (schema_of c.args.app.now.tables.items) (transactions_of c.args.app.now.txns.items) c.in-Ok.init l parts) c.behind.ensures f)) c.read_last.ensures.read
 
 pub returns-else-left-eq0-clause-all : goal.returns-else-left-eq0-clause-all
 returns-else-left-eq0-clause-all c parts are = last_answer c.read_last.result parts
-    (λ found e. last_all (schema_of c.args.app.now.tables.items) (transactions_of c.args.app.now.txns.items) c.args.tokens.now c.in-Ok.init c.in-Ok.left c.in-Ok.ensures.kept found (subst (λ l. FrontKept c.in-Ok.init l found) c.behind.ensures (ok_at (λ parts. FrontKept c.in-Ok.init c.behind.result.now parts) c.read_last.result found c.read_last.ensures.read e)) parts are)
+    (λ found e. last_all (schema_of c.args.app.now.tables.items) (transactions_of c.args.app.now.txns.items) c.args.tokens.now c.in-Ok.init c.in-Ok.left c.in-Ok.ensures.kept found (subst (λ l. LastKept (schema_of c.args.app.now.tables.items) (transactions_of c.args.app.now.txns.items) c.in-Ok.init l found) c.behind.ensures (ok_at (λ parts. LastKept (schema_of c.args.app.now.tables.items) (transactions_of c.args.app.now.txns.items) c.in-Ok.init c.behind.result.now parts) c.read_last.result found c.read_last.ensures.read e)) parts are)
     (λ refusal e. last_stopped (schema_of c.args.app.now.tables.items) (transactions_of c.args.app.now.txns.items) c.args.tokens.now c.in-Ok.init c.in-Ok.left c.in-Ok.ensures.kept c.if-left-eq0.false c.args.end refusal
-    (subst (λ l. FrontStops (length c.in-Ok.init) l c.args.end refusal) c.behind.ensures (c.read_last.ensures.refused refusal e)) parts are)
+    (subst (λ l. LastStops (schema_of c.args.app.now.tables.items) (transactions_of c.args.app.now.txns.items) (length c.in-Ok.init) l c.args.end refusal) c.behind.ensures (c.read_last.ensures.refused refusal e)) parts are)
 
 pub returns-else-left-eq0-clause-refused : goal.returns-else-left-eq0-clause-refused
 returns-else-left-eq0-clause-refused c refusal e = last_refused (schema_of c.args.app.now.tables.items) (transactions_of c.args.app.now.txns.items) c.args.tokens.now c.in-Ok.init c.in-Ok.left c.in-Ok.ensures.kept c.if-left-eq0.false c.args.end refusal
-    (subst (λ l. FrontStops (length c.in-Ok.init) l c.args.end refusal) c.behind.ensures (c.read_last.ensures.refused refusal e))
+    (subst (λ l. LastStops (schema_of c.args.app.now.tables.items) (transactions_of c.args.app.now.txns.items) (length c.in-Ok.init) l c.args.end refusal) c.behind.ensures (c.read_last.ensures.refused refusal e))
 
 pub returns-in-Err-clause-all : goal.returns-in-Err-clause-all
 returns-in-Err-clause-all c parts are = no_answer c.in-Err.stop parts (λ refusal e.
