@@ -1,0 +1,2 @@
+//! What traces and changes are like, whatever the rows answer.
+#![tactic(auto)]
