@@ -1,1 +1,4 @@
+pub mod BlockLaws
+pub mod SlotLaws
+pub mod StatementLaws
 pub mod TermLaws
