@@ -1,4 +1,6 @@
 pub mod BlockLaws
+pub mod ChangeLaws
+pub mod LoopLaws
 pub mod SlotLaws
 pub mod StatementLaws
 pub mod TermLaws
