@@ -4,3 +4,4 @@ pub mod LoopLaws
 pub mod SlotLaws
 pub mod StatementLaws
 pub mod TermLaws
+pub mod WriteLaws
