@@ -4,4 +4,5 @@ pub mod LoopLaws
 pub mod SlotLaws
 pub mod StatementLaws
 pub mod TermLaws
+pub mod UpdateLaws
 pub mod WriteLaws

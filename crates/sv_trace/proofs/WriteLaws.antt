@@ -89,6 +89,9 @@ from_next table c k columns from j = from (suc j) ∙ (let e : (c + suc j) ≡ (
 pub from_here : (table : Declaration) (c : ℕ) (k : Column) (columns : List Column) → AreFrom table c (k ∷ columns) → slice_get table.columns c ≡ Some k
 from_here table c k columns from = (let e : c ≡ (c + 0) = omega arith in ap (slice_get table.columns) e) ∙ sym (from 0)
 
+pub from_start : (table : Declaration) → AreFrom table 0 table.columns
+from_start table j = let e : j ≡ (0 + j) = omega arith in ap (slice_get table.columns) e
+
 -- the writes of one column, none where it is of the key
 front_one : (table : Declaration) (c : ℕ) (k : Column) (ws : List (ℕ × Write)) (b : Bool) → symbols.is_key_column table.key c ≡ b → slice_get table.columns c ≡ Some k → Suited table.columns ws
     → AtMostOne table c (if b then [] else writes_at c ws)
