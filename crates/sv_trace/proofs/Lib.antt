@@ -1,6 +1,7 @@
 pub mod BlockLaws
 pub mod ChangeLaws
 pub mod LoopLaws
+pub mod SchemaLaws
 pub mod SlotLaws
 pub mod StatementLaws
 pub mod TermLaws
