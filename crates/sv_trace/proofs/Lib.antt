@@ -2,6 +2,7 @@ pub mod BlockLaws
 pub mod ChangeLaws
 pub mod InsertLaws
 pub mod LoopLaws
+pub mod NamingLaws
 pub mod SchemaLaws
 pub mod SlotLaws
 pub mod StatementLaws
