@@ -1,5 +1,6 @@
 pub mod BlockLaws
 pub mod ChangeLaws
+pub mod DeclareLaws
 pub mod InsertLaws
 pub mod LoopLaws
 pub mod NamingLaws
