@@ -8,5 +8,6 @@ pub mod SchemaLaws
 pub mod SlotLaws
 pub mod StatementLaws
 pub mod TermLaws
+pub mod UnitLaws
 pub mod UpdateLaws
 pub mod WriteLaws
