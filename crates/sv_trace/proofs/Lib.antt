@@ -1,4 +1,5 @@
 pub mod BlockLaws
+pub mod BodyLaws
 pub mod ChangeLaws
 pub mod DeclareLaws
 pub mod InsertLaws

@@ -146,7 +146,7 @@ module _ (f : Frame) where
           ap (λ o. option_and_then (λ d. option_map (λ (x : Column). x.ty) (column_of d c)) o) is.named ∙ ap (λ o. option_map (λ (x : Column). x.ty) o) e
           ∙ sym (ap (λ o. Some (type_in (slice_get (columns_at o) c.num))) is.at ∙ ap (λ o. Some (type_in o)) (column_named is.table c k own e))
 
-  bad_fault : (spot : Spot) (code : Code) → fault_if true spot code ≡ [] → ⊥
+  pub bad_fault : (spot : Spot) (code : Code) → fault_if true spot code ≡ [] → ⊥
   bad_fault spot code e = cc
 
   term_at : (known : List Known) (u : Option Ident) → Scope
