@@ -179,3 +179,173 @@ module _ (f : Frame) (accepted : AcceptedSchema f.schema) (once : repeats (txn_n
           let same : c.ty ≡ type_of f.schema N t.num set.1 = not_apart (option_map (λ (x : Column). x.ty) (column_of is.table set.0)) (terms.type_of (scopes.updating (at known) t) set.1) c.ty (type_of f.schema N t.num set.1) (spot_of set.1)
           (ap (λ o. option_map (λ (x : Column). x.ty) o) e) term_type right_is in
           sym same ∙ sym (ap (λ o. type_in (slice_get (columns_at o) set.0.num)) is.at ∙ ap type_in (column_named is.table set.0 c own_is e))
+
+  value_known : (k : ℕ) (x : Ident) (m : Meaning) → numbered_name (all f) x ≡ x → x.num ≡ k → MeaningIs f m x → KnownIs f (suc k) (record { name = x; meaning = m })
+  value_known k x m own number meaning = record { own = own; below = omega (arith, number); meaning = meaning }
+
+  row_table : (known : List Known) (t : Ident) (rule : Declaration → List Refusal) (more : List Refusal) → numbered_table_name (all f) t ≡ t → at_table (table_of f.schema t) t rule ++ more ≡ [] → AtTable f.schema t rule
+  row_table known t rule more own right = at_right f.schema t rule own (front_none (at_table (table_of f.schema t) t rule) more right)
+
+  -- what is known behind a statement
+  known_behind : (c : Command) (known : List Known) (k : ℕ) → AllKnown f k known → numbered_command (all f) c ≡ c → HereFrom f k (command_declares c) → command_faults (at known) c ≡ [] → Suits f (at known) c
+      → AllKnown f (after k (command_declares c)) (behind (at known) c).known
+  known_behind (Declare x e) known k is own here right suits =
+      let same : numbered_name (all f) x ≡ x = cc in
+      let term_own : numbered_term (all f) e ≡ e = cc in
+      let term = plain_term k known e is right term_own in
+      let typed : declared_type (at known) e ≡ Some (item types.Int N.types x.num) = ap (λ l. type_if_right l (terms.type_of (at known) e)) right ∙ term.type ∙ ap (λ ty. Some ty) (sym suits.1) in
+      (value_known k x (Local (declared_type (at known) e)) same (here_number f once k (plain_name x) here.0 same) typed, known_more f k (suc k) known (omega arith) is)
+  known_behind (Assign x e) known k is own here right suits = is
+  known_behind (Fetch r t key) known k is own here right suits =
+      let same : numbered_name (all f) r ≡ r = cc in
+      let table_own : numbered_table_name (all f) t ≡ t = cc in
+      let row = row_table known t (λ d. value_list_faults (at known) d d.key key t) (all_term_faults (at known) key) table_own right in
+      (value_known k r (RowOf t) same (here_number f once k (row_name r t) here.0 same) (suits.1, row.is, here_table f once k r t here.0), known_more f k (suc k) known (omega arith) is)
+  known_behind (Choose test ys ns) known k is own here right suits = known_more f k (after k (block_declares ys ++ block_declares ns)) known (not_before k (block_declares ys ++ block_declares ns)) is
+  known_behind (ForRows r t test body) known k is own here right suits = known_more f k (after (suc k) (block_declares body)) known (let le : suc k ≤ after (suc k) (block_declares body) = not_before (suc k) (block_declares body) in omega (arith, le)) is
+  known_behind (ForEach x l body) known k is own here right suits = known_more f k (after (suc k) (block_declares body)) known (let le : suc k ≤ after (suc k) (block_declares body) = not_before (suc k) (block_declares body) in omega (arith, le)) is
+  known_behind (Insert t es) known k is own here right suits = is
+  known_behind (Update t key sets) known k is own here right suits = is
+  known_behind (Remove t key) known k is own here right suits = is
+  known_behind (Abort n) known k is own here right suits = is
+  known_behind (Reply e) known k is own here right suits = is
+
+  -- the final type of a name, and the final table of a row
+  final_type : (k x : ℕ) (ty : Ty) (n : Names) → x ≡ k → Agree (suc k) (with_type x ty n) N → item types.Int N.types x ≡ ty
+  final_type k x ty n number agree = sym (agree x (omega (arith, number))).0 ∙ item_here types.Int ty x n.types
+
+  final_table : (k r t : ℕ) (n : Names) → r ≡ k → Agree (suc k) (with_table r t n) N → item 0 N.tables r ≡ t
+  final_table k r t n number agree = sym (agree r (omega (arith, number))).1 ∙ item_here 0 t r n.tables
+
+  -- an assignment is of its variable's type
+  assigned_type : (k : ℕ) (known : List Known) (x : Ident) (e : Term) → AllKnown f k known → numbered_name (all f) x ≡ x → terms.type_of (at known) e ≡ Some (type_of f.schema N 0 e)
+      → assignment_faults (at known) (meaning_of (at known) x) x e ≡ [] → TypeIs f x (type_of f.schema N 0 e)
+  assigned_type k known x e is own typed right = by_meaning (meaning_of (at known) x) refl right
+    where
+      by_meaning : (o : Option Meaning) → meaning_of (at known) x ≡ o → assignment_faults (at known) o x e ≡ [] → TypeIs f x (type_of f.schema N 0 e)
+      by_meaning None named right = absurd (bad_fault f x.spot Unknown right)
+      by_meaning (Some (Parameter ty)) named right = absurd (bad_fault f x.spot Typing right)
+      by_meaning (Some (Local ty)) named right =
+          let here = found f k known x (Local ty) is own named in
+          not_apart ty (terms.type_of (at known) e) (item types.Int N.types x.num) (type_of f.schema N 0 e) (spot_of e) here.meaning typed right
+      by_meaning (Some (RowOf t)) named right = absurd (bad_fault f x.spot Typing right)
+      by_meaning (Some Element) named right = absurd (bad_fault f x.spot Typing right)
+
+  -- each loop is a unit
+  abbrev LoopIs : Loop → Type 0
+  LoopIs l = slice_get (units f.txn.body) (unit_of (loop_variables f.txn.body) l.variable) ≡ Some l.body
+
+  mutual
+    command_suits : (c : Command) (known : List Known) (n : Names) (k : ℕ) → AllKnown f k known → numbered_command (all f) c ≡ c → HereFrom f k (command_declares c) → command_faults (at known) c ≡ [] → inner_faults (at known) c ≡ []
+        → Agree k n N → Agree (after k (command_declares c)) (command_names f.schema c n) N → Each LoopIs (command_loops c) → Suits f (at known) c
+    command_suits (Declare x e) known n k is own here right inner begin final loops =
+        let same : numbered_name (all f) x ≡ x = cc in
+        let term_own : numbered_term (all f) e ≡ e = cc in
+        let term = plain_term k known e is right term_own in
+        (term.reads, final_type k x.num (type_of f.schema n 0 e) n (here_number f once k (plain_name x) here.0 same) final ∙ term.agrees n begin)
+    command_suits (Assign x e) known n k is own here right inner begin final loops =
+        let same : numbered_name (all f) x ≡ x = cc in
+        let term_own : numbered_term (all f) e ≡ e = cc in
+        let term = plain_term k known e is (back_none (assignment_faults (at known) (meaning_of (at known) x) x e) (term_faults (at known) e) right) term_own in
+        (term.reads, assigned_type k known x e is same term.type (front_none (assignment_faults (at known) (meaning_of (at known) x) x e) (term_faults (at known) e) right))
+    command_suits (Fetch r t key) known n k is own here right inner begin final loops =
+        let same : numbered_name (all f) r ≡ r = cc in
+        let keys_own : numbered_terms (all f) key ≡ key = cc in
+        (plain_terms k known key is (back_none (at_table (table_of f.schema t) t (λ d. value_list_faults (at known) d d.key key t)) (all_term_faults (at known) key) right) keys_own,
+        final_table k r.num t.num n (here_number f once k (row_name r t) here.0 same) final)
+    command_suits (Choose test ys ns) known n k is own here right inner begin final loops =
+        let test_own : numbered_test (all f) test ≡ test = cc in
+        let one : numbered_block (all f) ys ≡ ys = cc in
+        let two : numbered_block (all f) ns ≡ ns = cc in
+        let split = here_split f k (block_declares ys) (block_declares ns) here in
+        let mid : Names = block_names f.schema ys n in
+        let mid_k : ℕ = after k (block_declares ys) in
+        let final_ns : Agree (after mid_k (block_declares ns)) (block_names f.schema ns mid) N = subst (λ j. Agree j (block_names f.schema ns mid) N) (after_append k (block_declares ys) (block_declares ns)) final in
+        let final_ys : Agree mid_k mid N = agree_then mid_k mid (block_names f.schema ns mid) N (block_stays f once ns mid mid_k two split.1)
+        (agree_fewer mid_k (after mid_k (block_declares ns)) (block_names f.schema ns mid) N (not_before mid_k (block_declares ns)) final_ns) in
+        (test_reads f k known None [] 0 is tt test right test_own,
+        block_suits ys known n k is one split.0 (front_none (block_faults (at known) ys) (block_faults (at known) ns) inner) begin final_ys (each_left LoopIs (block_loops ys) (block_loops ns) loops),
+        block_suits ns known mid mid_k (known_more f k mid_k known (not_before k (block_declares ys)) is) two split.1 (back_none (block_faults (at known) ys) (block_faults (at known) ns) inner) final_ys final_ns
+        (each_right LoopIs (block_loops ys) (block_loops ns) loops))
+    command_suits (ForRows r t test body) known n k is own here right inner begin final loops =
+        let same : numbered_name (all f) r ≡ r = cc in
+        let table_own : numbered_table_name (all f) t ≡ t = cc in
+        let body_own : numbered_block (all f) body ≡ body = cc in
+        let mid : Names = with_table r.num t.num n in
+        let number : r.num ≡ k = here_number f once k (row_name r t) here.0 same in
+        let start : Agree (suc k) mid N = agree_then (suc k) mid (block_names f.schema body mid) N (block_stays f once body mid (suc k) body_own here.1)
+        (agree_fewer (suc k) (after (suc k) (block_declares body)) (block_names f.schema body mid) N (not_before (suc k) (block_declares body)) final) in
+        let of_table : IsTable f.schema t = there f.schema t table_own (front_none (no_table f.schema t) (condition_faults (knowing (at known) r (RowOf t)) test) right) in
+        let table : TableIs f r t = final_table k r.num t.num n number start in
+        let row : KnownIs f (suc k) (record { name = r; meaning = RowOf t }) = value_known k r (RowOf t) same number (table, of_table, here_table f once k r t here.0) in
+        (table, loops.0, block_suits body (record { name = r; meaning = RowOf t } ∷ known) mid (suc k) (row, known_more f k (suc k) known (omega arith) is) body_own here.1 inner start final loops.1)
+    command_suits (ForEach x l body) known n k is own here right inner begin final loops =
+        let same : numbered_name (all f) x ≡ x = cc in
+        let body_own : numbered_block (all f) body ≡ body = cc in
+        let mid : Names = with_type x.num types.Int n in
+        let number : x.num ≡ k = here_number f once k (plain_name x) here.0 same in
+        let start : Agree (suc k) mid N = agree_then (suc k) mid (block_names f.schema body mid) N (block_stays f once body mid (suc k) body_own here.1)
+        (agree_fewer (suc k) (after (suc k) (block_declares body)) (block_names f.schema body mid) N (not_before (suc k) (block_declares body)) final) in
+        let typed : TypeIs f x types.Int = final_type k x.num types.Int n number start in
+        let item_known : KnownIs f (suc k) (record { name = x; meaning = Element }) = value_known k x Element same number typed in
+        (typed, loops.0, block_suits body (record { name = x; meaning = Element } ∷ known) mid (suc k) (item_known, known_more f k (suc k) known (omega arith) is) body_own here.1 inner start final loops.1)
+    command_suits (Insert t es) known n k is own here right inner begin final loops =
+        let table_own : numbered_table_name (all f) t ≡ t = cc in
+        let values_own : numbered_terms (all f) es ≡ es = cc in
+        let rule : Declaration → List Refusal = λ d. kind_faults d acts.Insert t ++ value_list_faults (at known) d (column_names d) es t in
+        let row = row_table known t rule (all_term_faults (at known) es) table_own right in
+        let reads = back_none (at_table (table_of f.schema t) t rule) (all_term_faults (at known) es) right in
+        let d : Declaration = row.is.table in
+        (plain_terms k known es is reads values_own,
+        allowed f.schema t row.is acts.Insert (front_none (kind_faults d acts.Insert t) (value_list_faults (at known) d (column_names d) es t) row.right),
+        of_columns k known t row.is es is (back_none (kind_faults d acts.Insert t) (value_list_faults (at known) d (column_names d) es t) row.right) reads values_own)
+    command_suits (Update t key sets) known n k is own here right inner begin final loops =
+        let table_own : numbered_table_name (all f) t ≡ t = cc in
+        let keys_own : numbered_terms (all f) key ≡ key = cc in
+        let sets_own : map (numbered_set (numbers.updating (all f) t)) sets ≡ sets = cc in
+        let rule : Declaration → List Refusal = λ d. kind_faults d acts.Update t ++ value_list_faults (at known) d d.key key t ++ sets_faults (at known) t d sets in
+        let keys : List Refusal = all_term_faults (at known) key in
+        let twice : List Refusal = repeats (map (λ (s : Ident × Term). s.0) sets) in
+        let inside : List Refusal = flat_map (λ s. term_faults (scopes.updating (at known) t) s.1) sets in
+        let whole : List Refusal = at_table (table_of f.schema t) t rule in
+        let front = front_none (whole ++ keys) twice (front_none (whole ++ keys ++ twice) inside right) in
+        let row = row_table known t rule keys table_own front in
+        let d : Declaration = row.is.table in
+        let kinds = front_none (kind_faults d acts.Update t ++ value_list_faults (at known) d d.key key t) (sets_faults (at known) t d sets) row.right in
+        (plain_terms k known key is (back_none whole keys front) keys_own,
+        allowed f.schema t row.is acts.Update (front_none (kind_faults d acts.Update t) (value_list_faults (at known) d d.key key t) kinds),
+        sets_suit k known t row.is sets is (back_none (kind_faults d acts.Update t ++ value_list_faults (at known) d d.key key t) (sets_faults (at known) t d sets) row.right) (back_none (whole ++ keys ++ twice) inside right) sets_own)
+    command_suits (Remove t key) known n k is own here right inner begin final loops =
+        let table_own : numbered_table_name (all f) t ≡ t = cc in
+        let keys_own : numbered_terms (all f) key ≡ key = cc in
+        let rule : Declaration → List Refusal = λ d. kind_faults d acts.Remove t ++ value_list_faults (at known) d d.key key t in
+        let row = row_table known t rule (all_term_faults (at known) key) table_own right in
+        let d : Declaration = row.is.table in
+        (plain_terms k known key is (back_none (at_table (table_of f.schema t) t rule) (all_term_faults (at known) key) right) keys_own,
+        allowed f.schema t row.is acts.Remove (front_none (kind_faults d acts.Remove t) (value_list_faults (at known) d d.key key t) row.right))
+    command_suits (Abort m) known n k is own here right inner begin final loops = tt
+    command_suits (Reply e) known n k is own here right inner begin final loops =
+        let term_own : numbered_term (all f) e ≡ e = cc in
+        (plain_term k known e is right term_own).reads
+
+    block_suits : (b : Block) (known : List Known) (n : Names) (k : ℕ) → AllKnown f k known → numbered_block (all f) b ≡ b → HereFrom f k (block_declares b) → block_faults (at known) b ≡ []
+        → Agree k n N → Agree (after k (block_declares b)) (block_names f.schema b n) N → Each LoopIs (block_loops b) → BlockSuits f (at known) b
+    block_suits Finish known n k is own here right begin final loops = tt
+    block_suits (Then c b) known n k is own here right begin final loops =
+        let one : numbered_command (all f) c ≡ c = cc in
+        let two : numbered_block (all f) b ≡ b = cc in
+        let split = here_split f k (command_declares c) (block_declares b) here in
+        let mid : Names = command_names f.schema c n in
+        let mid_k : ℕ = after k (command_declares c) in
+        let final_b : Agree (after mid_k (block_declares b)) (block_names f.schema b mid) N = subst (λ j. Agree j (block_names f.schema b mid) N) (after_append k (command_declares c) (block_declares b)) final in
+        let final_c : Agree mid_k mid N = agree_then mid_k mid (block_names f.schema b mid) N (block_stays f once b mid mid_k two split.1)
+        (agree_fewer mid_k (after mid_k (block_declares b)) (block_names f.schema b mid) N (not_before mid_k (block_declares b)) final_b) in
+        let own_faults : List Refusal = command_faults (at known) c in
+        let nested : List Refusal = inner_faults (at known) c in
+        let behind_faults : List Refusal = block_faults (behind (at known) c) b in
+        let front = front_none (own_faults ++ nested) behind_faults right in
+        let c_right = front_none own_faults nested front in
+        let suits = command_suits c known n k is one split.0 c_right (back_none own_faults nested front) begin final_c (each_left LoopIs (command_loops c) (block_loops b) loops) in
+        let rest = block_suits b (behind (at known) c).known mid mid_k (known_behind c known k is one split.0 c_right suits) two split.1
+        (subst (λ s. block_faults s b ≡ []) (scope_is known c) (back_none (own_faults ++ nested) behind_faults right)) final_c final_b (each_right LoopIs (command_loops c) (block_loops b) loops) in
+        (suits, subst (λ s. BlockSuits f s b) (sym (scope_is known c)) rest)
