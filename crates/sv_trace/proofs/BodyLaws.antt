@@ -96,10 +96,10 @@ same_length m n e = by_test (m == n) refl e
     by_test false t e = absurd cc
 
 module _ (f : Frame) (accepted : AcceptedSchema f.schema) (once : repeats (txn_names.names_of f.txn) ≡ []) where
-  abbrev N : Names
+  abbrev pub N : Names
   N = names_in f
 
-  abbrev at : List Known → Scope
+  abbrev pub at : List Known → Scope
   at known = record { schema = f.schema; known = known; updated = None }
 
   scope_is : (known : List Known) (c : Command) → behind (at known) c ≡ at (behind (at known) c).known
@@ -232,7 +232,7 @@ module _ (f : Frame) (accepted : AcceptedSchema f.schema) (once : repeats (txn_n
       by_meaning (Some Element) named right = absurd (bad_fault f x.spot Typing right)
 
   -- each loop is a unit
-  abbrev LoopIs : Loop → Type 0
+  abbrev pub LoopIs : Loop → Type 0
   LoopIs l = slice_get (units f.txn.body) (unit_of (loop_variables f.txn.body) l.variable) ≡ Some l.body
 
   mutual
@@ -328,7 +328,7 @@ module _ (f : Frame) (accepted : AcceptedSchema f.schema) (once : repeats (txn_n
         let term_own : numbered_term (all f) e ≡ e = cc in
         (plain_term k known e is right term_own).reads
 
-    block_suits : (b : Block) (known : List Known) (n : Names) (k : ℕ) → AllKnown f k known → numbered_block (all f) b ≡ b → HereFrom f k (block_declares b) → block_faults (at known) b ≡ []
+    pub block_suits : (b : Block) (known : List Known) (n : Names) (k : ℕ) → AllKnown f k known → numbered_block (all f) b ≡ b → HereFrom f k (block_declares b) → block_faults (at known) b ≡ []
         → Agree k n N → Agree (after k (block_declares b)) (block_names f.schema b n) N → Each LoopIs (block_loops b) → BlockSuits f (at known) b
     block_suits Finish known n k is own here right begin final loops = tt
     block_suits (Then c b) known n k is own here right begin final loops =

@@ -5,6 +5,7 @@ pub mod DeclareLaws
 pub mod InsertLaws
 pub mod LoopLaws
 pub mod NamingLaws
+pub mod OpeningLaws
 pub mod SchemaLaws
 pub mod SlotLaws
 pub mod StatementLaws
