@@ -100,10 +100,10 @@ argument_type (q ∷ params) (a ∷ arguments) zero p fits at value =
 argument_type (q ∷ params) (a ∷ arguments) (suc n) p fits at value = argument_type params arguments n p fits.1 at value
 
 -- what one of the names means, of all of which something holds
-means_of : (P Q : Known → Type 0) (R : Meaning → Type 0) (known : List Known) (x : ℕ) → Each Q known → Means R known x → (k : Known) × Q k × (k.name.num ≡ x) × R k.meaning
-means_of P Q R [] x each means = absurd means
-means_of P Q R (k ∷ known) x each (inl here) = (k, each.0, here.0, here.1)
-means_of P Q R (k ∷ known) x each (inr more) = means_of P Q R known x each.1 more
+means_of : (Q : Known → Type 0) (R : Meaning → Type 0) (known : List Known) (x : ℕ) → Each Q known → Means R known x → (k : Known) × Q k × (k.name.num ≡ x) × R k.meaning
+means_of Q R [] x each means = absurd means
+means_of Q R (k ∷ known) x each (inl here) = (k, each.0, here.0, here.1)
+means_of Q R (k ∷ known) x each (inr more) = means_of Q R known x each.1 more
 
 module _ (f : Frame) (is : IsFrame f) where
   faultless : txn_faults f.schema f.txn ≡ []
@@ -163,3 +163,49 @@ module _ (f : Frame) (is : IsFrame f) where
     suits = block_suits f is.accepted.tables once f.txn.body (reverse (map parameter f.txn.params)) begin (after 0 first) known body_own here.1 right agree
         (agree_same (after (after 0 first) (block_declares f.txn.body)) (names_in f)) (units_found f once (after 0 first) body_own here.1);
   }
+
+  opening_sees : Sees f (opening f.schema f.txn.params) (started f.args empty).scope
+  opening_sees = record { values = values; rows = rows }
+    where
+      Typed : Known → Type 0
+      Typed k = IsValue k.meaning → type_of_val (item nothing (map argument f.args) k.name.num) ≡ item types.Int (names_in f).types k.name.num
+
+      typed : Each Typed (reverse (map parameter f.txn.params))
+      typed = each_reversed Typed parameter f.txn.params (each_at (λ p. Typed (parameter p)) f.txn.params (λ n p at value. one n p at value))
+        where
+          one : (n : ℕ) (p : Ident × Ty) → slice_get f.txn.params n ≡ Some p → IsValue (Parameter p.1) → type_of_val (item nothing (map argument f.args) p.0.num) ≡ item types.Int (names_in f).types p.0.num
+          one n p at value =
+              let here = param_at n p at in
+              ap (λ m. type_of_val (item nothing (map argument f.args) m)) here.0 ∙ argument_type f.txn.params f.args n p is.fits at value ∙ sym here.1.meaning
+
+      values : (x : ℕ) → Means IsValue (reverse (map parameter f.txn.params)) x → type_of_val (item nothing (map argument f.args) x) ≡ item types.Int (names_in f).types x
+      values x means =
+          let k = means_of Typed IsValue (reverse (map parameter f.txn.params)) x typed means in
+          subst (λ n. type_of_val (item nothing (map argument f.args) n) ≡ item types.Int (names_in f).types n) k.2 (k.1 k.3)
+
+      NoRow : Known → Type 0
+      NoRow k = IsRow k.meaning → ⊥
+
+      no_rows : Each NoRow (reverse (map parameter f.txn.params))
+      no_rows = each_reversed NoRow parameter f.txn.params (each_at (λ p. NoRow (parameter p)) f.txn.params (λ n p at row. row))
+
+      rows : (r : ℕ) → Means IsRow (reverse (map parameter f.txn.params)) r → map type_of_got (item [] [] r) ≡ types_at f.schema (item 0 (names_in f).tables r)
+      rows r means = let k = means_of NoRow IsRow (reverse (map parameter f.txn.params)) r no_rows means in absurd (k.1 k.3)
+
+  pub begins : Holds f (opening f.schema f.txn.params) (started f.args empty)
+  begins = record {
+    sees = opening_sees;
+    tables = λ p row found. let bad : None ≡ Some row = sym (get-empty place_cmp p) ∙ found in absurd cc;
+    effects = All-nil (EffectFits f.schema);
+    few = omega arith;
+    shaped = All-nil (Shaped f.schema f.txn);
+  }
+
+-- a run that came to the end of the body: its trace is shaped, and its changes fit
+pub completes : (f : Frame) (st : Stand) → Passes f (opening f.schema f.txn.params) f.txn.body (started f.args empty) st
+    → All (Shaped f.schema f.txn) (instance_of st.scope.progress ∷ st.instances) × All (EffectFits f.schema) st.effects × (length st.effects ≤ 64)
+completes f st passes = (
+  All-cons (Shaped f.schema f.txn) (instance_of st.scope.progress) st.instances (whole_shaped f 0 0 f.txn.body st.scope.progress refl passes.along) passes.holds.shaped,
+  passes.holds.effects,
+  passes.holds.few,
+)
