@@ -6,6 +6,7 @@ pub mod InsertLaws
 pub mod LoopLaws
 pub mod NamingLaws
 pub mod OpeningLaws
+pub mod RunLaws
 pub mod SchemaLaws
 pub mod SlotLaws
 pub mod StatementLaws

@@ -192,20 +192,28 @@ module _ (f : Frame) (is : IsFrame f) where
       rows : (r : ℕ) → Means IsRow (reverse (map parameter f.txn.params)) r → map type_of_got (item [] [] r) ≡ types_at f.schema (item 0 (names_in f).tables r)
       rows r means = let k = means_of NoRow IsRow (reverse (map parameter f.txn.params)) r no_rows means in absurd (k.1 k.3)
 
-  pub begins : Holds f (opening f.schema f.txn.params) (started f.args empty)
-  begins = record {
-    sees = opening_sees;
-    tables = λ p row found. let bad : None ≡ Some row = sym (get-empty place_cmp p) ∙ found in absurd cc;
+  -- on tables whose rows fit
+  pub begins_on : (t : Tables) → ((p : Place) (row : Row) → get t p ≡ Some row → RowIs f.schema p row.values) → Holds f (opening f.schema f.txn.params) (started f.args t)
+  begins_on t rows = record {
+    sees = record { values = opening_sees.values; rows = opening_sees.rows };
+    tables = rows;
     effects = All-nil (EffectFits f.schema);
     few = omega arith;
     shaped = All-nil (Shaped f.schema f.txn);
   }
 
+  pub begins : Holds f (opening f.schema f.txn.params) (started f.args empty)
+  begins = begins_on empty (λ p row found. let bad : None ≡ Some row = sym (get-empty place_cmp p) ∙ found in absurd cc)
+
 -- a run that came to the end of the body: its trace is shaped, and its changes fit
-pub completes : (f : Frame) (st : Stand) → Passes f (opening f.schema f.txn.params) f.txn.body (started f.args empty) st
+pub completes_on : (f : Frame) (t : Tables) (st : Stand) → Passes f (opening f.schema f.txn.params) f.txn.body (started f.args t) st
     → All (Shaped f.schema f.txn) (instance_of st.scope.progress ∷ st.instances) × All (EffectFits f.schema) st.effects × (length st.effects ≤ 64)
-completes f st passes = (
+completes_on f t st passes = (
   All-cons (Shaped f.schema f.txn) (instance_of st.scope.progress) st.instances (whole_shaped f 0 0 f.txn.body st.scope.progress refl passes.along) passes.holds.shaped,
   passes.holds.effects,
   passes.holds.few,
 )
+
+pub completes : (f : Frame) (st : Stand) → Passes f (opening f.schema f.txn.params) f.txn.body (started f.args empty) st
+    → All (Shaped f.schema f.txn) (instance_of st.scope.progress ∷ st.instances) × All (EffectFits f.schema) st.effects × (length st.effects ≤ 64)
+completes f st passes = completes_on f empty st passes
