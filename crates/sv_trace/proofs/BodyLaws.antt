@@ -1,50 +1,47 @@
 -- The body of an accepted transaction: its statements read what may be used, and their values are of the types of what they are put into.
-use Rattle.std.proofs.Common.{◌≡◌, ◌∙◌, ℕ, zero, suc, ◌+◌, ◌<◌, ◌≤◌, ◌==◌, ◌||◌, not, Bool, true, false, if◌then◌else◌, List, [], ◌∷◌, ◌++◌, length, map, reverse, Option, Some, None, slice_get, refl, sym, ap, subst, arith}
+use Rattle.std.proofs.Common.{◌≡◌, ◌∙◌, ℕ, suc, ◌≤◌, ◌==◌, not, Bool, true, false, List, [], ◌∷◌, ◌++◌, length, map, Option, Some, None, slice_get, refl, sym, ap, subst, arith}
 use Rattle.std.specs.List.{flat_map}
 use Rattle.std.specs.Option.{option_map, is_none}
 use Rattle.std.proofs.lemmas.List.{length-map}
-use Rattle.std.proofs.lemmas.Option.{slice_get-map}
 use Rattle.sv_effect.proofs.TestLaws.{test_same}
 use Rattle.sv_value.specs.declared.spots.Spot.{Spot}
 use Rattle.sv_app.specs.declared.acts.Act.{Act}
 use Rattle.sv_app.specs.declared.acts.Act.TheVariants as acts
 use Rattle.sv_app.specs.declared.apps.Ident.{Ident}
-use Rattle.sv_app.specs.declared.names.Declared.{Declared}
 use Rattle.sv_app.specs.declared.names.Known.{Known}
 use Rattle.sv_app.specs.declared.names.Meaning.{Meaning}
 use Rattle.sv_app.specs.declared.names.Meaning.TheVariants.{Parameter, Variable as Local, Row as RowOf, Element}
-use Rattle.sv_app.specs.declared.refusals.Code.{Code}
 use Rattle.sv_app.specs.declared.refusals.Code.TheVariants.{Unknown, Kind, Typing}
 use Rattle.sv_app.specs.declared.refusals.Refusal.{Refusal}
 use Rattle.sv_app.specs.declared.schemas.Column.{Column}
 use Rattle.sv_app.specs.declared.schemas.Ty.{Ty}
 use Rattle.sv_app.specs.declared.schemas.Ty.TheVariants as types
-use Rattle.sv_app.specs.Accepted.{AcceptedApp, AcceptedSchema}
+use Rattle.sv_app.specs.Accepted.{AcceptedSchema}
 use Rattle.sv_app.specs.Kinds.{allows}
 use Rattle.sv_app.specs.Lookups.{is_key, column_of, table_of, table_names, column_names}
 use Rattle.sv_app.specs.Numbers.{numbered_in, columns_meant}
-use Rattle.sv_app.specs.Paths.{Names, with_type, with_table, columns_at, type_in, type_of, column_type, command_names, block_names, parameter_types}
+use Rattle.sv_app.specs.Paths.{Names, with_type, with_table, columns_at, type_in, type_of, column_type, command_names, block_names}
 use Rattle.sv_app.specs.Schema.{Declaration}
 use Rattle.sv_app.specs.Scopes.{Scope, meaning_of, knowing, parameter, opening}
 use Rattle.sv_app.specs.Scopes as scopes
 use Rattle.sv_app.specs.Slots.{item}
 use Rattle.sv_app.specs.TermTypes as terms
 use Rattle.sv_app.specs.TermTypes.{spot_of, are_apart}
-use Rattle.sv_app.specs.Trees.{Term, Test, Command, Declare, Assign, Fetch, Choose, ForRows, ForEach, Insert, Update, Remove, Abort, Reply, Block, Finish, Then, Transaction}
+use Rattle.sv_app.specs.Trees.{Term, Command, Declare, Assign, Fetch, Choose, ForRows, ForEach, Insert, Update, Remove, Abort, Reply, Block, Finish, Then}
 use Rattle.sv_app.specs.TxnNames.{plain_name, row_name, declares}
 use Rattle.sv_app.specs.TxnNames as txn_names
 use Rattle.sv_app.specs.TxnNumbers.{numbered_name, numbered_term, numbered_terms, numbered_test, numbered_set, numbered_table_name, numbered_command, numbered_block, numbered_parameter, numbered_txn}
 use Rattle.sv_app.specs.TxnNumbers as numbers
-use Rattle.sv_app.specs.TxnTyping.{at_table, no_table, kind_faults, count_faults, type_faults, each_type_faults, value_list_faults, set_faults, sets_faults, assignment_faults, walk_faults, type_if_right, declared_type, behind, command_faults, inner_faults, block_faults, txn_faults, term_faults, all_term_faults, test_faults, condition_faults}
+use Rattle.sv_app.specs.TxnTyping.{at_table, no_table, kind_faults, count_faults, type_faults, each_type_faults, value_list_faults, set_faults, sets_faults, assignment_faults, type_if_right, declared_type, behind, command_faults, inner_faults, block_faults, term_faults, all_term_faults, condition_faults}
 use Rattle.sv_app.specs.Typing.{fault_if, repeats, no_column, is_same_type}
 use Rattle.sv_app.specs.Units.{Loop, command_loops, block_loops, units, loop_variables, unit_of}
-use Rattle.sv_app.proofs.AcceptedLaws.{front_none, back_none, each_none, no_fault}
-use Rattle.sv_trace.specs.Standing.{Frame, IsFrame, names_in, Allows, AreOfColumns, SetsSuit, TypeIs, TableIs, IsUnit, Suits, BlockSuits, BlockIn, Reads, AllRead}
-use Rattle.sv_trace.proofs.DeclareLaws.{command_declares, block_declares, block_lists, after, after_append, not_before, HereFrom, here_split, agree_same, agree_then, agree_fewer, here_number, here_table, command_stays, block_stays}
+use Rattle.sv_app.proofs.AcceptedLaws.{front_none, back_none, no_fault}
+use Rattle.sv_trace.specs.Standing.{Frame, names_in, Allows, AreOfColumns, SetsSuit, TypeIs, TableIs, Suits, BlockSuits, AllRead}
+use Rattle.sv_trace.proofs.DeclareLaws.{command_declares, block_declares, after, after_append, not_before, HereFrom, here_split, agree_then, agree_fewer, here_number, here_table, block_stays}
 use Rattle.sv_trace.proofs.NamingLaws.{all, in_update, Agree, IsTable, MeaningIs, KnownIs, AllKnown, known_more, UpdatedIs, TermIs, term_is, terms_read, test_reads, bad_fault, found}
-use Rattle.sv_trace.proofs.SchemaLaws.{same_at, table_named, column_named, own_first, columns_once}
+use Rattle.sv_trace.proofs.SchemaLaws.{table_named, column_named, own_first, columns_once}
 use Rattle.sv_trace.proofs.SlotLaws.{item_here}
-use Rattle.sv_trace.proofs.UnitLaws.{Each, each_left, each_right, units_found}
+use Rattle.sv_trace.proofs.UnitLaws.{Each, each_left, each_right}
 use Rattle.sv_trace.proofs.UpdateLaws.{same_table}
 
 -- types that aren't apart are the same
@@ -167,10 +164,12 @@ module _ (f : Frame) (accepted : AcceptedSchema f.schema) (once : repeats (txn_n
       let one : set_faults inside is.table set ≡ [] = front_none (set_faults inside is.table set) (flat_map (λ s. set_faults inside is.table s) sets) right in
       let types_right = back_none (no_column is.table set.0 ++ fault_if (is_key is.table set.0) set.0.spot Typing) (type_faults inside is.table set.0 set.1) one in
       let column_right = front_none (no_column is.table set.0) (fault_if (is_key is.table set.0) set.0.spot Typing)
-      (front_none (no_column is.table set.0 ++ fault_if (is_key is.table set.0) set.0.spot Typing) (type_faults inside is.table set.0 set.1) one) in
-      (term.reads, typed (column_of is.table set.0) refl (no_fault (is_none (column_of is.table set.0)) set.0.spot Unknown column_right) (subst (λ l. numbered_in l set.0 ≡ set.0) meant column_own) term.type types_right,
-      sets_suit k known t is sets knowns (back_none (set_faults inside is.table set) (flat_map (λ s. set_faults inside is.table s) sets) right)
-      (back_none (term_faults inside set.1) (flat_map (λ s. term_faults inside s.1) sets) reads) rest)
+      (front_none (no_column is.table set.0 ++ fault_if (is_key is.table set.0) set.0.spot Typing) (type_faults inside is.table set.0 set.1) one) in (
+        term.reads,
+        typed (column_of is.table set.0) refl (no_fault (is_none (column_of is.table set.0)) set.0.spot Unknown column_right) (subst (λ l. numbered_in l set.0 ≡ set.0) meant column_own) term.type types_right,
+        sets_suit k known t is sets knowns (back_none (set_faults inside is.table set) (flat_map (λ s. set_faults inside is.table s) sets) right)
+            (back_none (term_faults inside set.1) (flat_map (λ s. term_faults inside s.1) sets) reads) rest,
+      )
     where
       typed : (o : Option Column) → column_of is.table set.0 ≡ o → is_none o ≡ false → numbered_in (column_names is.table) set.0 ≡ set.0 → terms.type_of (scopes.updating (at known) t) set.1 ≡ Some (type_of f.schema N t.num set.1)
           → type_faults (scopes.updating (at known) t) is.table set.0 set.1 ≡ [] → type_of f.schema N t.num set.1 ≡ column_type f.schema t.num set.0.num
@@ -250,9 +249,10 @@ module _ (f : Frame) (accepted : AcceptedSchema f.schema) (once : repeats (txn_n
         (term.reads, assigned_type k known x e is same term.type (front_none (assignment_faults (at known) (meaning_of (at known) x) x e) (term_faults (at known) e) right))
     command_suits (Fetch r t key) known n k is own here right inner begin final loops =
         let same : numbered_name (all f) r ≡ r = cc in
-        let keys_own : numbered_terms (all f) key ≡ key = cc in
-        (plain_terms k known key is (back_none (at_table (table_of f.schema t) t (λ d. value_list_faults (at known) d d.key key t)) (all_term_faults (at known) key) right) keys_own,
-        final_table k r.num t.num n (here_number f once k (row_name r t) here.0 same) final)
+        let keys_own : numbered_terms (all f) key ≡ key = cc in (
+          plain_terms k known key is (back_none (at_table (table_of f.schema t) t (λ d. value_list_faults (at known) d d.key key t)) (all_term_faults (at known) key) right) keys_own,
+          final_table k r.num t.num n (here_number f once k (row_name r t) here.0 same) final,
+        )
     command_suits (Choose test ys ns) known n k is own here right inner begin final loops =
         let test_own : numbered_test (all f) test ≡ test = cc in
         let one : numbered_block (all f) ys ≡ ys = cc in
@@ -262,11 +262,12 @@ module _ (f : Frame) (accepted : AcceptedSchema f.schema) (once : repeats (txn_n
         let mid_k : ℕ = after k (block_declares ys) in
         let final_ns : Agree (after mid_k (block_declares ns)) (block_names f.schema ns mid) N = subst (λ j. Agree j (block_names f.schema ns mid) N) (after_append k (block_declares ys) (block_declares ns)) final in
         let final_ys : Agree mid_k mid N = agree_then mid_k mid (block_names f.schema ns mid) N (block_stays f once ns mid mid_k two split.1)
-        (agree_fewer mid_k (after mid_k (block_declares ns)) (block_names f.schema ns mid) N (not_before mid_k (block_declares ns)) final_ns) in
-        (test_reads f k known None [] 0 is tt test right test_own,
-        block_suits ys known n k is one split.0 (front_none (block_faults (at known) ys) (block_faults (at known) ns) inner) begin final_ys (each_left LoopIs (block_loops ys) (block_loops ns) loops),
-        block_suits ns known mid mid_k (known_more f k mid_k known (not_before k (block_declares ys)) is) two split.1 (back_none (block_faults (at known) ys) (block_faults (at known) ns) inner) final_ys final_ns
-        (each_right LoopIs (block_loops ys) (block_loops ns) loops))
+        (agree_fewer mid_k (after mid_k (block_declares ns)) (block_names f.schema ns mid) N (not_before mid_k (block_declares ns)) final_ns) in (
+          test_reads f k known None [] 0 is tt test right test_own,
+          block_suits ys known n k is one split.0 (front_none (block_faults (at known) ys) (block_faults (at known) ns) inner) begin final_ys (each_left LoopIs (block_loops ys) (block_loops ns) loops),
+          block_suits ns known mid mid_k (known_more f k mid_k known (not_before k (block_declares ys)) is) two split.1 (back_none (block_faults (at known) ys) (block_faults (at known) ns) inner) final_ys final_ns
+              (each_right LoopIs (block_loops ys) (block_loops ns) loops),
+        )
     command_suits (ForRows r t test body) known n k is own here right inner begin final loops =
         let same : numbered_name (all f) r ≡ r = cc in
         let table_own : numbered_table_name (all f) t ≡ t = cc in
@@ -295,10 +296,11 @@ module _ (f : Frame) (accepted : AcceptedSchema f.schema) (once : repeats (txn_n
         let rule : Declaration → List Refusal = λ d. kind_faults d acts.Insert t ++ value_list_faults (at known) d (column_names d) es t in
         let row = row_table known t rule (all_term_faults (at known) es) table_own right in
         let reads = back_none (at_table (table_of f.schema t) t rule) (all_term_faults (at known) es) right in
-        let d : Declaration = row.is.table in
-        (plain_terms k known es is reads values_own,
-        allowed f.schema t row.is acts.Insert (front_none (kind_faults d acts.Insert t) (value_list_faults (at known) d (column_names d) es t) row.right),
-        of_columns k known t row.is es is (back_none (kind_faults d acts.Insert t) (value_list_faults (at known) d (column_names d) es t) row.right) reads values_own)
+        let d : Declaration = row.is.table in (
+          plain_terms k known es is reads values_own,
+          allowed f.schema t row.is acts.Insert (front_none (kind_faults d acts.Insert t) (value_list_faults (at known) d (column_names d) es t) row.right),
+          of_columns k known t row.is es is (back_none (kind_faults d acts.Insert t) (value_list_faults (at known) d (column_names d) es t) row.right) reads values_own,
+        )
     command_suits (Update t key sets) known n k is own here right inner begin final loops =
         let table_own : numbered_table_name (all f) t ≡ t = cc in
         let keys_own : numbered_terms (all f) key ≡ key = cc in
@@ -311,18 +313,20 @@ module _ (f : Frame) (accepted : AcceptedSchema f.schema) (once : repeats (txn_n
         let front = front_none (whole ++ keys) twice (front_none (whole ++ keys ++ twice) inside right) in
         let row = row_table known t rule keys table_own front in
         let d : Declaration = row.is.table in
-        let kinds = front_none (kind_faults d acts.Update t ++ value_list_faults (at known) d d.key key t) (sets_faults (at known) t d sets) row.right in
-        (plain_terms k known key is (back_none whole keys front) keys_own,
-        allowed f.schema t row.is acts.Update (front_none (kind_faults d acts.Update t) (value_list_faults (at known) d d.key key t) kinds),
-        sets_suit k known t row.is sets is (back_none (kind_faults d acts.Update t ++ value_list_faults (at known) d d.key key t) (sets_faults (at known) t d sets) row.right) (back_none (whole ++ keys ++ twice) inside right) sets_own)
+        let kinds = front_none (kind_faults d acts.Update t ++ value_list_faults (at known) d d.key key t) (sets_faults (at known) t d sets) row.right in (
+          plain_terms k known key is (back_none whole keys front) keys_own,
+          allowed f.schema t row.is acts.Update (front_none (kind_faults d acts.Update t) (value_list_faults (at known) d d.key key t) kinds),
+          sets_suit k known t row.is sets is (back_none (kind_faults d acts.Update t ++ value_list_faults (at known) d d.key key t) (sets_faults (at known) t d sets) row.right) (back_none (whole ++ keys ++ twice) inside right) sets_own,
+        )
     command_suits (Remove t key) known n k is own here right inner begin final loops =
         let table_own : numbered_table_name (all f) t ≡ t = cc in
         let keys_own : numbered_terms (all f) key ≡ key = cc in
         let rule : Declaration → List Refusal = λ d. kind_faults d acts.Remove t ++ value_list_faults (at known) d d.key key t in
         let row = row_table known t rule (all_term_faults (at known) key) table_own right in
-        let d : Declaration = row.is.table in
-        (plain_terms k known key is (back_none (at_table (table_of f.schema t) t rule) (all_term_faults (at known) key) right) keys_own,
-        allowed f.schema t row.is acts.Remove (front_none (kind_faults d acts.Remove t) (value_list_faults (at known) d d.key key t) row.right))
+        let d : Declaration = row.is.table in (
+          plain_terms k known key is (back_none (at_table (table_of f.schema t) t rule) (all_term_faults (at known) key) right) keys_own,
+          allowed f.schema t row.is acts.Remove (front_none (kind_faults d acts.Remove t) (value_list_faults (at known) d d.key key t) row.right),
+        )
     command_suits (Abort m) known n k is own here right inner begin final loops = tt
     command_suits (Reply e) known n k is own here right inner begin final loops =
         let term_own : numbered_term (all f) e ≡ e = cc in

@@ -1,5 +1,5 @@
 -- Inserts: each column outside the key is written by what fits it.
-use Rattle.std.proofs.Common.{◌≡◌, ◌∙◌, ℕ, ℤ, zero, suc, ◌+◌, ◌<◌, ◌-ℤ◌, ◌==◌, ◌||◌, if◌then◌else◌, Bool, true, false, List, [], ◌∷◌, ◌++◌, length, map, Option, Some, None, slice_get, unwrap_or, refl, sym, ap, subst, arith}
+use Rattle.std.proofs.Common.{◌≡◌, ◌∙◌, ℕ, zero, suc, ◌+◌, ◌<◌, ◌-ℤ◌, ◌==◌, ◌||◌, if◌then◌else◌, Bool, true, false, List, [], ◌∷◌, length, map, Option, Some, None, slice_get, unwrap_or, refl, sym, ap, subst, arith}
 use Rattle.std.specs.Option.{option_map}
 use Rattle.std.proofs.lemmas.Option.{slice_get-map}
 use Rattle.sv_value.specs.declared.values.Val.{Val}
@@ -29,7 +29,7 @@ use Rattle.sv_effect.specs.declared.outcomes.Outcome.TheVariants as outcomes
 use Rattle.sv_effect.specs.Fits.{KeyFits, WriteFits, IsWrite, AreWrites, AllAbove, Ascending, columns_written, is_written, is_key_column}
 use Rattle.sv_effect.specs.RowChange.{key_values}
 use Rattle.sv_effect.specs.Run.{Stand, Flow, Goes, Ends, with_scope, on_value, changed, row_with, inserted}
-use Rattle.sv_effect.specs.RunChanges.{Effect, key_in, with_writes, delta_to, kept_to, insert_of, inserts, kept_values, stands}
+use Rattle.sv_effect.specs.RunChanges.{Effect, key_in, with_writes, kept_to, insert_of, inserts, kept_values, stands}
 use Rattle.sv_effect.specs.RunValues.{nothing, Scope as Values, with_progress, put, narrow, Gives, then_value, val_of, column, values_of}
 use Rattle.sv_effect.specs.TablesOfCut.{number_in}
 use Rattle.sv_effect.proofs.TestLaws.{same_test}
@@ -157,7 +157,7 @@ module _ (d : Declaration) (vs : List Val) (kept : List Got) (grows : Bool) (int
             went = kept_then grows (kept_way k.merge) (columns_way d (suc c) columns) s g.scope h.scope step.went rest.went;
           } in
           subst (λ y. Inserts d c (k ∷ columns) (where_kept grows way) s ws y) (same_scope ((c, g.value) ∷ h.value) ws h.scope z h.last)
-              (subst (λ l. Inserts d c (k ∷ columns) (where_kept grows way) s l h.scope) (same_value ((c, g.value) ∷ h.value) ws h.scope z h.last) done)
+          (subst (λ l. Inserts d c (k ∷ columns) (where_kept grows way) s l h.scope) (same_value ((c, g.value) ∷ h.value) ws h.scope z h.last) done)
         where
           whole : (w : Write) (ls : List (ℕ × Write)) → ((j : ℕ) → j < length columns → is_key_column d.key (suc c + j) ≡ false → is_written (suc c + j) ls ≡ true) → (j : ℕ) → j < length (k ∷ columns)
               → is_key_column d.key (c + j) ≡ false → is_written (c + j) ((c, w) ∷ ls) ≡ true

@@ -1,7 +1,6 @@
 -- The meaning of a run keeps what holds: by its statements, its blocks and the turns of its loops.
-use Rattle.std.proofs.Common.{◌≡◌, ◌∙◌, ℕ, suc, if◌then◌else◌, Bool, true, false, List, [], ◌∷◌, map, Option, Some, None, slice_get, refl, sym, ap, subst, arith}
+use Rattle.std.proofs.Common.{◌≡◌, ℕ, if◌then◌else◌, Bool, true, false, List, [], ◌∷◌, map, Option, Some, None, slice_get, refl, sym, subst, arith}
 use Rattle.std.specs.FinMap.{get}
-use Rattle.std.specs.List.{All}
 use Rattle.std.proofs.lemmas.List.Elements.{All-nil}
 use Rattle.sv_value.specs.declared.values.Key.{Key}
 use Rattle.sv_value.specs.declared.values.Val.{Val}
@@ -20,52 +19,12 @@ use Rattle.sv_app.specs.Tables.{Row}
 use Rattle.sv_app.specs.Trees.{Term, Test, Command, Declare, Assign, Fetch, Choose, ForRows, ForEach, Insert, Update, Remove, Abort, Reply, Block, Finish, Then}
 use Rattle.sv_app.specs.TxnTyping.{behind}
 use Rattle.sv_app.specs.Units.{loop_variables, unit_of}
-use Rattle.sv_effect.specs.declared.outcomes.Outcome.{Outcome}
 use Rattle.sv_effect.specs.declared.outcomes.Outcome.TheVariants as outcomes
-use Rattle.sv_effect.specs.Run.{
-  Setting,
-  Stand,
-  Flow,
-  Goes,
-  Ends,
-  then_do,
-  with_scope,
-  on_value,
-  on_truth,
-  on_present,
-  on_table,
-  on_keys,
-  only,
-  with_row,
-  with_value,
-  place_of_row,
-  fetched,
-  inserted,
-  updated,
-  removed,
-  meeting,
-  present_keys,
-  turns,
-  begun,
-  closed,
-  instance,
-  if_present,
-  row_turn,
-  item_turn,
-  left_loop,
-  items_of,
-  run_command,
-  run_block,
-  body_of,
-  run_body,
-  run,
-  started,
-  result_of,
-}
+use Rattle.sv_effect.specs.Run.{Setting, Stand, Flow, Goes, Ends, then_do, with_scope, on_truth, on_present, on_table, on_keys, only, with_row, with_value, place_of_row, fetched, inserted, updated, removed, meeting, present_keys, turns, begun, closed, instance, if_present, row_turn, item_turn, left_loop, items_of, run_command, run_block, body_of, run_body, run, started, result_of}
 use Rattle.sv_effect.specs.RunChanges.{key_in}
-use Rattle.sv_effect.specs.RunValues.{Scope as Values, Evaluated, Leaves, Gives, value_of, values_of, truth_of}
+use Rattle.sv_effect.specs.RunValues.{Evaluated, Leaves, Gives, values_of, truth_of}
 use Rattle.sv_trace.specs.Laws.{IsShapedRun, RunsAreShaped}
-use Rattle.sv_trace.specs.Standing.{Frame, IsFrame, BlockIn, CommandIn, RowAt, EffectFits, Holds, Passes, Makes, Turned}
+use Rattle.sv_trace.specs.Standing.{Frame, IsFrame, BlockIn, CommandIn, EffectFits, Holds, Passes, Makes, Turned}
 use Rattle.sv_trace.proofs.BlockLaws.{first_in, rest_in, passes_finish, passes_then}
 use Rattle.sv_trace.proofs.ChangeLaws.{own_rows_fit, row_is, makes_remove}
 use Rattle.sv_trace.proofs.InsertLaws.{makes_insert}
@@ -204,7 +163,7 @@ module _ (f : Frame) where
       let p : Place = place_of_row t ran.is in
       let row = present (get st.tables p) (fetched r.num (with_scope st ran.scope)) end ran.goes in
       subst (Makes f at (Fetch r t k) st) (same_stand (with_scope st (with_row r.num row.row.values ran.scope)) end row.rest)
-          (makes_fetch f at r t k st ran.is ran.scope row.row command holds ran.gives (own_rows_fit f at st p (Some row.row) holds row.there))
+      (makes_fetch f at r t k st ran.is ran.scope row.row command holds ran.gives (own_rows_fit f at st p (Some row.row) holds row.there))
 
   of_remove : (at : Scope) (t : Ident) (k : List Term) (st end : Stand) → CommandIn f at (Remove t k) → Holds f at st → run_command setting (Remove t k) st ≡ Goes end → Makes f at (Remove t k) st end
   of_remove at t k st end command holds is =

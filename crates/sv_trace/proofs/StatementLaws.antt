@@ -1,30 +1,26 @@
 -- Declarations, assignments, reads of rows and replies.
-use Rattle.std.proofs.Common.{◌≡◌, ◌∙◌, ◌⊎◌, inl, inr, ℕ, ◌<◌, ◌≤◌, nat_lt, if◌then◌else◌, Bool, true, false, List, [], ◌∷◌, ◌++◌, length, map, Option, Some, None, slice_get, refl, sym, ap, subst, append-nil, arith}
-use Rattle.std.proofs.lemmas.Bool.Decides.{nat_tests}
+use Rattle.std.proofs.Common.{◌≡◌, ◌∙◌, ◌⊎◌, inl, inr, ℕ, nat_lt, if◌then◌else◌, Bool, true, false, List, [], ◌∷◌, ◌++◌, length, map, Some, None, refl, sym, ap, subst, append-nil}
 use Rattle.sv_value.specs.declared.values.Val.{Val}
 use Rattle.sv_app.specs.declared.apps.Ident.{Ident}
 use Rattle.sv_app.specs.declared.gots.Got.{Got}
-use Rattle.sv_app.specs.declared.names.Known.{Known}
 use Rattle.sv_app.specs.declared.names.Meaning.{Meaning}
-use Rattle.sv_app.specs.declared.names.Meaning.TheVariants.{Parameter, Variable as Local, Row as RowOf, Element}
+use Rattle.sv_app.specs.declared.names.Meaning.TheVariants.{Variable as Local, Row as RowOf}
 use Rattle.sv_app.specs.declared.places.Place.{Place}
-use Rattle.sv_app.specs.declared.schemas.Ty.{Ty}
 use Rattle.sv_app.specs.declared.schemas.Ty.TheVariants as types
-use Rattle.sv_app.specs.Paths.{Way, Path, Leads, columns_at, type_of, term_way, terms_way, command_path, formed}
+use Rattle.sv_app.specs.Paths.{Way, Path, Leads, columns_at, type_of, term_way, terms_way, formed}
 use Rattle.sv_app.specs.Schema.{Declaration}
 use Rattle.sv_app.specs.Scopes.{Scope, knowing}
 use Rattle.sv_app.specs.Slots.{item, with_item}
 use Rattle.sv_app.specs.Tables.{Row}
 use Rattle.sv_app.specs.Trees.{Term, Declare, Assign, Fetch, Reply}
 use Rattle.sv_app.specs.TxnTyping.{declared_type}
-use Rattle.sv_effect.specs.declared.outcomes.Outcome.{Outcome}
 use Rattle.sv_effect.specs.declared.outcomes.Outcome.TheVariants as outcomes
 use Rattle.sv_effect.specs.Run.{Setting, Stand, Flow, Goes, Ends, with_scope, on_value, with_value, is_formed, assigned, with_row, place_of_row, replied, run_command}
 use Rattle.sv_effect.specs.RunValues.{nothing, Progress, Scope as Values, with_progress, Evaluated, Leaves, Gives, value_of, values_of}
 use Rattle.sv_trace.specs.Standing.{Frame, names_in, type_of_val, type_of_got, types_at, IsValue, IsRow, Means, Reads, CommandIn, Sees, RowIs, RowAt, Holds, way_of, Along, Makes}
 use Rattle.sv_trace.proofs.BlockLaws.{holds_with}
 use Rattle.sv_trace.proofs.SlotLaws.{at_items}
-use Rattle.sv_trace.proofs.TermLaws.{Went, went_to, sees_after, no_old, Evaluates, evaluates, AllEvaluate, all_evaluate}
+use Rattle.sv_trace.proofs.TermLaws.{Went, sees_after, no_old, evaluates, all_evaluate}
 
 pub same_stand : (a b : Stand) → Goes a ≡ Goes b → a ≡ b
 same_stand a b e = cc
