@@ -147,9 +147,6 @@ module _ (f : Frame) where
   pub bad_fault : (spot : Spot) (code : Code) → fault_if true spot code ≡ [] → ⊥
   bad_fault spot code e = cc
 
-  term_at : (known : List Known) (u : Option Ident) → Scope
-  term_at known u = record { schema = f.schema; known = known; updated = u }
-
   module _ (k : ℕ) (known : List Known) (u : Option Ident) (columns : List Ident) (table : ℕ) (is : AllKnown k known) (updated : UpdatedIs u columns table) where
     abbrev at : Scope
     at = record { schema = f.schema; known = known; updated = u }

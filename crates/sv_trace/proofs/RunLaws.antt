@@ -30,17 +30,17 @@ use Rattle.sv_trace.proofs.ChangeLaws.{own_rows_fit, row_is, makes_remove}
 use Rattle.sv_trace.proofs.InsertLaws.{makes_insert}
 use Rattle.sv_trace.proofs.LoopLaws.{yes_in, no_in, test_holds, makes_yes, makes_no, rows_in, items_in, row_begins, item_begins, row_turn_closes, item_turn_closes, turned_none, turned_more, makes_rows, makes_items}
 use Rattle.sv_trace.proofs.OpeningLaws.{body_in, begins_on, completes_on}
-use Rattle.sv_trace.proofs.StatementLaws.{same_stand, Went_on, on_value_goes, makes_declare, makes_assign, makes_fetch, makes_reply}
+use Rattle.sv_trace.proofs.StatementLaws.{same_stand, WentOn, on_value_goes, makes_declare, makes_assign, makes_fetch, makes_reply}
 use Rattle.sv_trace.proofs.UnitLaws.{Each}
 use Rattle.sv_trace.proofs.UpdateLaws.{makes_update}
 
 -- how a run went on
-record Went_through (first : Flow) (go : Stand → Flow) (end : Stand) : Type 0 where
+record WentThrough (first : Flow) (go : Stand → Flow) (end : Stand) : Type 0 where
   mid : Stand
   first_is : first ≡ Goes mid
   rest : go mid ≡ Goes end
 
-goes_on : (first : Flow) (go : Stand → Flow) (end : Stand) → then_do first go ≡ Goes end → Went_through first go end
+goes_on : (first : Flow) (go : Stand → Flow) (end : Stand) → then_do first go ≡ Goes end → WentThrough first go end
 goes_on (Goes st) go end is = record { mid = st; first_is = refl; rest = is }
 goes_on (Ends o) go end is = absurd cc
 
@@ -175,7 +175,7 @@ module _ (f : Frame) where
   of_update : (at : Scope) (t : Ident) (k : List Term) (sets : List (Ident × Term)) (st end : Stand) → CommandIn f at (Update t k sets) → Holds f at st → run_command setting (Update t k sets) st ≡ Goes end → Makes f at (Update t k sets) st end
   of_update at t k sets st end command holds is = by_table (slice_get f.schema t.num) refl ran.goes
     where
-      ran : Went_on (values_of k st.scope) st (λ vs z. on_table (slice_get f.schema t.num) (λ d. on_present (get z.tables (place_of_row t vs)) (updated d (place_of_row t vs) sets z))) end
+      ran : WentOn (values_of k st.scope) st (λ vs z. on_table (slice_get f.schema t.num) (λ d. on_present (get z.tables (place_of_row t vs)) (updated d (place_of_row t vs) sets z))) end
       ran = on_value_goes (values_of k st.scope) st (λ vs z. on_table (slice_get f.schema t.num) (λ d. on_present (get z.tables (place_of_row t vs)) (updated d (place_of_row t vs) sets z))) end is
 
       p : Place
@@ -193,7 +193,7 @@ module _ (f : Frame) where
       go : List Val → Stand → Flow
       go vs z = on_table (slice_get f.schema t.num) (λ d. let p : Place = record { table = t.num; key = key_in d.key vs } in inserted d p vs (get z.tables p) z)
 
-      ran : Went_on (values_of es st.scope) st go end
+      ran : WentOn (values_of es st.scope) st go end
       ran = on_value_goes (values_of es st.scope) st go end is
 
       by_table : (o : Option Declaration) → slice_get f.schema t.num ≡ o

@@ -26,13 +26,13 @@ pub same_stand : (a b : Stand) → Goes a ≡ Goes b → a ≡ b
 same_stand a b e = cc
 
 -- a value was given, and the run went on with it
-pub record Went_on {A : Type 0} (value : Evaluated A) (st : Stand) (go : A → Stand → Flow) (end : Stand) : Type 0 where
+pub record WentOn {A : Type 0} (value : Evaluated A) (st : Stand) (go : A → Stand → Flow) (end : Stand) : Type 0 where
   pub is : A
   pub scope : Values
   pub gives : value ≡ Gives is scope
   pub goes : go is (with_scope st scope) ≡ Goes end
 
-pub on_value_goes : {A : Type 0} (value : Evaluated A) (st : Stand) (go : A → Stand → Flow) (end : Stand) → on_value value st go ≡ Goes end → Went_on value st go end
+pub on_value_goes : {A : Type 0} (value : Evaluated A) (st : Stand) (go : A → Stand → Flow) (end : Stand) → on_value value st go ≡ Goes end → WentOn value st go end
 on_value_goes Leaves st go end e = absurd cc
 on_value_goes (Gives v s) st go end e = record { is = v; scope = s; gives = refl; goes = e }
 

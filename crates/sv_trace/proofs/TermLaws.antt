@@ -132,8 +132,8 @@ integer_scope None s v z e = absurd cc
 integer_scope (Some n) s v z e = same_scope (Int n) v s z e
 
 -- a column of a row of these types
-pub type_at : (types' : List Ty) (row : List Got) (c : ℕ) → map type_of_got row ≡ types' → type_of_got (column row c) ≡ unwrap_or (slice_get types' c) types.Int
-type_at types' row c e = by_slot (slice_get row c) refl ∙ ap (λ o. unwrap_or o types.Int) (sym (slice_get-map type_of_got row c) ∙ ap (λ l. slice_get l c) e)
+pub type_at : (tys : List Ty) (row : List Got) (c : ℕ) → map type_of_got row ≡ tys → type_of_got (column row c) ≡ unwrap_or (slice_get tys c) types.Int
+type_at tys row c e = by_slot (slice_get row c) refl ∙ ap (λ o. unwrap_or o types.Int) (sym (slice_get-map type_of_got row c) ∙ ap (λ l. slice_get l c) e)
   where
     by_slot : (o : Option Got) → slice_get row c ≡ o → type_of_got (unwrap_or (slice_get row c) (gots.Num (pos 0))) ≡ unwrap_or (option_map type_of_got (slice_get row c)) types.Int
     by_slot None e = rw (e) refl
