@@ -169,11 +169,3 @@ module _ (count : ℕ) (tokens : List Token) where
         subst (λ c. LastRefused schema txns count tokens c here) (sym none.syntax) (subst (λ l. LastRefused schema txns count tokens Syntax l) (sym none.place)
         (NoSites head was.items (is.front ++ was.front) rest (is.whole ∙ ap (λ l. is.front ++ l) was.whole ∙ sym (append_assoc is.front was.front rest))
         (record { front = is.front; back = was.front; whole = refl; first = is.is; then = was.are }) (no_setting rest was.ends) (sym (ap (λ (g : Given). g.sites) was.made) ∙ none.none)))
-
-    -- behind the front
-    pub record Later (code : Code) (here : List Token) : Type 0 where
-      pub head : PartHead
-      pub g : Given
-      pub rest : List Token
-      pub is : FrontIs (head, g) rest
-      pub low : length here ≤ length rest
