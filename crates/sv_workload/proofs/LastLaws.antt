@@ -1,6 +1,5 @@
 -- The head and the settings of a last part: where they are refused, and that no step and no session begins a setting.
-use Rattle.std.proofs.Common.{◌≡◌, ◌≢◌, ◌∙◌, ℕ, zero, suc, ◌<◌, ◌≤◌, ◌⊎◌, inl, inr, max, Bool, true, false, List, [], ◌∷◌, ◌++◌, length, map, Option, Some, None, Ok, Err, refl, sym, ap, subst, append_assoc, append-nil, arith, codes}
-use Rattle.std.specs.Option.{unwrap_or}
+use Rattle.std.proofs.Common.{◌≡◌, ◌≢◌, ◌∙◌, ℕ, zero, suc, ◌<◌, ◌≤◌, ◌⊎◌, inl, inr, false, List, [], ◌∷◌, ◌++◌, length, Option, Some, None, Err, refl, sym, ap, subst, append_assoc, arith, codes}
 use Rattle.std.proofs.lemmas.List.{length-append}
 use Rattle.sv_lex.specs.declared.tokens.Token.{Token}
 use Rattle.sv_lex.specs.declared.tokens.TokenKind.TheVariants.{Name}
@@ -11,19 +10,18 @@ use Rattle.sv_app.specs.Schema.{Declaration}
 use Rattle.sv_app.specs.Trees.{Transaction}
 use Rattle.sv_schema_reader.specs.declared.faults.Fault.{Fault}
 use Rattle.sv_schema_reader.specs.Grammar.{◌·◌, word}
-use Rattle.sv_workload.specs.declared.written.Given.{Given}
 use Rattle.sv_workload.specs.declared.written.PartHead.{PartHead}
 use Rattle.sv_workload.specs.declared.written.PartHead.TheVariants.{Replay as ReplayHead, Run as RunHead}
 use Rattle.sv_workload.specs.declared.written.Setting.{Setting}
 use Rattle.sv_workload.specs.declared.written.Setting.TheVariants.{Sites}
-use Rattle.sv_workload.specs.Elements.{Refusals, Among, Here, Behind, IsFirst, AreNone}
-use Rattle.sv_workload.specs.Grammar.{many, setting, line, session, replay_head, run_head, last_part}
+use Rattle.sv_workload.specs.Elements.{IsFirst, AreNone}
+use Rattle.sv_workload.specs.Grammar.{many, setting, line, session}
 use Rattle.sv_workload.specs.LastRefused.{BeginsWord, BeginsSetting, part_head, sites_set, LineRefused, SessionRefused, TooManyAsks, TooManyShows, BadSession, BadSite, BadOrigin, BadSeq, BadSlot, BadNumber, InCalls, NoEnd, LastRefused, NoPart, InSettings, NoSites, InLines, InSessions}
 use Rattle.sv_workload.specs.LastRefused as last
 use Rattle.sv_workload.specs.Reading.{front_from, begins_setting}
-use Rattle.sv_workload.specs.Written.{Line, Ask, Order, Deliver, Settle, Catch, Show, Cut, Session, Last, Absent, Replay, Run}
-use Rattle.sv_workload.proofs.FrontLaws.{FrontIs, FrontRefused, front_judged, front_in, Sited, Siteless, setting_none}
-use Rattle.sv_workload.proofs.JudgeLaws.{Judged, Found, InFirst, InSecond}
+use Rattle.sv_workload.specs.Written.{Line, Ask, Order, Deliver, Settle, Catch, Show, Cut, Session}
+use Rattle.sv_workload.proofs.FrontLaws.{FrontIs, FrontRefused, front_judged, front_in, setting_none}
+use Rattle.sv_workload.proofs.JudgeLaws.{Found, InFirst, InSecond}
 use Rattle.sv_workload.proofs.LoopLaws.{Element, Elements}
 use Rattle.sv_workload.proofs.MarkLaws.{Misplaced}
 use Rattle.sv_workload.proofs.SettingLaws.{state}
