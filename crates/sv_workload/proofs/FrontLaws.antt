@@ -1,6 +1,5 @@
 -- The head of a last part and its settings are judged.
-use Rattle.std.proofs.Common.{◌≡◌, ◌≢◌, ◌∙◌, ℕ, ◌<◌, ◌≤◌, ◌⊎◌, inl, inr, Bool, true, false, if◌then◌else◌, bytes_eq, List, [], ◌∷◌, ◌++◌, length, Option, Some, None, Ok, Err, refl, sym, ap, subst, append_assoc, append-nil, arith, codes}
-use Rattle.std.proofs.lemmas.List.{length-append}
+use Rattle.std.proofs.Common.{◌≡◌, ◌≢◌, ◌∙◌, ℕ, ◌≤◌, inr, Bool, true, false, if◌then◌else◌, bytes_eq, List, [], ◌++◌, length, Option, Some, None, refl, sym, ap, subst, append_assoc, arith, codes}
 use Rattle.std.proofs.lemmas.Slice.Eq.{bytes_eq-Decides}
 use Rattle.sv_lex.specs.declared.marks.Mark.TheVariants.{Percents}
 use Rattle.sv_lex.specs.declared.tokens.Token.{Token}
@@ -11,22 +10,18 @@ use Rattle.sv_app.specs.declared.refusals.Code.TheVariants.{Syntax}
 use Rattle.sv_app.specs.Codes.{number_of}
 use Rattle.sv_app.specs.Schema.{Declaration}
 use Rattle.sv_app.specs.Trees.{Transaction}
-use Rattle.sv_schema_reader.specs.declared.faults.Fault.{Fault}
-use Rattle.sv_schema_reader.specs.Grammar.{Both, ◌·◌, kind, word}
-use Rattle.sv_schema_reader.specs.Reading.{Read, ◌>>=◌, by_word, token_at}
+use Rattle.sv_schema_reader.specs.Grammar.{◌·◌, kind, word}
+use Rattle.sv_schema_reader.specs.Reading.{◌>>=◌, by_word, token_at}
 use Rattle.sv_schema_reader.proofs.KindLaws.{token_of}
-use Rattle.sv_schema_reader.proofs.MadeLaws.{Made, take_last, skip_plain, both_map}
-use Rattle.sv_schema_reader.proofs.ReadLaws.{Plain, anything, Means, leaf, same_plain, same_read}
+use Rattle.sv_schema_reader.proofs.MadeLaws.{take_last, skip_plain}
+use Rattle.sv_schema_reader.proofs.ReadLaws.{Plain, anything, leaf, same_plain, same_read}
 use Rattle.sv_workload.specs.declared.written.Given.{Given}
 use Rattle.sv_workload.specs.declared.written.PartHead.{PartHead}
 use Rattle.sv_workload.specs.declared.written.PartHead.TheVariants.{Replay as ReplayHead, Run as RunHead}
-use Rattle.sv_workload.specs.declared.written.Setting.{Setting}
-use Rattle.sv_workload.specs.declared.written.Setting.TheVariants.{Sites}
-use Rattle.sv_workload.specs.Elements.{Refusals, IsMisplaced, Among, IsFirst, AreNone}
-use Rattle.sv_workload.specs.Grammar.{many, setting, replay_head, run_head}
-use Rattle.sv_workload.specs.LastRefused.{BeginsSetting, SettingRefused, part_head, LastRefused, NoPart, InSettings, NoSites, InLines, InSessions}
-use Rattle.sv_workload.specs.LastRefused as last
-use Rattle.sv_workload.specs.Reading.{part_named, part_of, head_at, unset, with_sites, front_from, settings_from, settled, begins_setting}
+use Rattle.sv_workload.specs.Elements.{Refusals, Among}
+use Rattle.sv_workload.specs.Grammar.{setting}
+use Rattle.sv_workload.specs.LastRefused.{BeginsSetting, SettingRefused, part_head, LastRefused, NoPart, InSettings, NoSites}
+use Rattle.sv_workload.specs.Reading.{part_named, part_of, head_at, unset, with_sites, front_from, settings_from, begins_setting}
 use Rattle.sv_workload.proofs.JudgeLaws as judge
 use Rattle.sv_workload.proofs.JudgeLaws.{Judged, Found, Alike, judged_map, judged_then, Either, InFirst, InSecond}
 use Rattle.sv_workload.proofs.LoopLaws.{Element, Elements, judged_loop}
@@ -169,11 +164,3 @@ module _ (count : ℕ) (tokens : List Token) where
         subst (λ c. LastRefused schema txns count tokens c here) (sym none.syntax) (subst (λ l. LastRefused schema txns count tokens Syntax l) (sym none.place)
         (NoSites head was.items (is.front ++ was.front) rest (is.whole ∙ ap (λ l. is.front ++ l) was.whole ∙ sym (append_assoc is.front was.front rest))
         (record { front = is.front; back = was.front; whole = refl; first = is.is; then = was.are }) (no_setting rest was.ends) (sym (ap (λ (g : Given). g.sites) was.made) ∙ none.none)))
-
-    -- behind the front
-    pub record Later (code : Code) (here : List Token) : Type 0 where
-      pub head : PartHead
-      pub g : Given
-      pub rest : List Token
-      pub is : FrontIs (head, g) rest
-      pub low : length here ≤ length rest

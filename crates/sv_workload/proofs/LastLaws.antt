@@ -1,6 +1,5 @@
--- A last part of which nothing but its head and its settings is there.
-use Rattle.std.proofs.Common.{◌≡◌, ◌≢◌, ◌∙◌, ℕ, zero, suc, ◌<◌, ◌≤◌, ◌⊎◌, inl, inr, max, Bool, true, false, List, [], ◌∷◌, ◌++◌, length, map, Option, Some, None, Ok, Err, refl, sym, ap, subst, append_assoc, append-nil, arith, codes}
-use Rattle.std.specs.Option.{unwrap_or}
+-- The head and the settings of a last part: where they are refused, and that no step and no session begins a setting.
+use Rattle.std.proofs.Common.{◌≡◌, ◌≢◌, ◌∙◌, ℕ, zero, suc, ◌<◌, ◌≤◌, ◌⊎◌, inl, inr, false, List, [], ◌∷◌, ◌++◌, length, Option, Some, None, Err, refl, sym, ap, subst, append_assoc, arith, codes}
 use Rattle.std.proofs.lemmas.List.{length-append}
 use Rattle.sv_lex.specs.declared.tokens.Token.{Token}
 use Rattle.sv_lex.specs.declared.tokens.TokenKind.TheVariants.{Name}
@@ -11,19 +10,18 @@ use Rattle.sv_app.specs.Schema.{Declaration}
 use Rattle.sv_app.specs.Trees.{Transaction}
 use Rattle.sv_schema_reader.specs.declared.faults.Fault.{Fault}
 use Rattle.sv_schema_reader.specs.Grammar.{◌·◌, word}
-use Rattle.sv_workload.specs.declared.written.Given.{Given}
 use Rattle.sv_workload.specs.declared.written.PartHead.{PartHead}
 use Rattle.sv_workload.specs.declared.written.PartHead.TheVariants.{Replay as ReplayHead, Run as RunHead}
 use Rattle.sv_workload.specs.declared.written.Setting.{Setting}
 use Rattle.sv_workload.specs.declared.written.Setting.TheVariants.{Sites}
-use Rattle.sv_workload.specs.Elements.{Refusals, Among, Here, Behind, IsFirst, AreNone}
-use Rattle.sv_workload.specs.Grammar.{many, setting, line, session, replay_head, run_head, last_part}
+use Rattle.sv_workload.specs.Elements.{IsFirst, AreNone}
+use Rattle.sv_workload.specs.Grammar.{many, setting, line, session}
 use Rattle.sv_workload.specs.LastRefused.{BeginsWord, BeginsSetting, part_head, sites_set, LineRefused, SessionRefused, TooManyAsks, TooManyShows, BadSession, BadSite, BadOrigin, BadSeq, BadSlot, BadNumber, InCalls, NoEnd, LastRefused, NoPart, InSettings, NoSites, InLines, InSessions}
 use Rattle.sv_workload.specs.LastRefused as last
 use Rattle.sv_workload.specs.Reading.{front_from, begins_setting}
-use Rattle.sv_workload.specs.Written.{Line, Ask, Order, Deliver, Settle, Catch, Show, Cut, Session, Last, Absent, Replay, Run}
-use Rattle.sv_workload.proofs.FrontLaws.{FrontIs, FrontRefused, front_judged, front_in, Sited, Siteless, setting_none}
-use Rattle.sv_workload.proofs.JudgeLaws.{Judged, Found, InFirst, InSecond}
+use Rattle.sv_workload.specs.Written.{Line, Ask, Order, Deliver, Settle, Catch, Show, Cut, Session}
+use Rattle.sv_workload.proofs.FrontLaws.{FrontIs, FrontRefused, front_judged, front_in, setting_none}
+use Rattle.sv_workload.proofs.JudgeLaws.{Found, InFirst, InSecond}
 use Rattle.sv_workload.proofs.LoopLaws.{Element, Elements}
 use Rattle.sv_workload.proofs.MarkLaws.{Misplaced}
 use Rattle.sv_workload.proofs.SettingLaws.{state}
@@ -52,11 +50,6 @@ front_empty [] rest e = refl
 front_empty (x ∷ front) rest e = absurd cc
 
 -- nothing is refused where nothing stands
-
-among_none : {A : Type 0} {element : A → List Token → Type 0} {refused : List A → List Token → Refusals} → ((a : A) → element a [] → ⊥) → ((before : List A) → AreNone (refused before []))
-    → (before : List A) (tokens : List Token) (code : Code) (here : List Token) → tokens ≡ [] → Among element refused before tokens code here → ⊥
-among_none {A} {element} {refused} some none _ _ _ _ e (Here before tokens code here is) = none before code here (subst (λ l. refused before l code here) e is)
-among_none {A} {element} {refused} some none _ _ _ _ e (Behind before a front rest code here is more) = some a (subst (λ l. element a l) (front_empty front rest (sym e)) is)
 
 word_front : (bytes : List ℕ) (Rest : List Token → Type 0) (front here tokens : List Token) → tokens ≡ [] → tokens ≡ front ++ here → (word bytes · Rest) front → ⊥
 word_front bytes Rest front here tokens e w is = first_word bytes Rest (subst (λ l. (word bytes · Rest) l) (front_empty front here (sym e ∙ w)) is)
@@ -115,10 +108,6 @@ lines_unset (x ∷ ls) l is = ap begins_setting is.whole ∙ line_unset x is.fro
 pub sessions_unset : (ss : List Session) (l : List Token) → many session ss l → begins_setting l ≡ false
 sessions_unset [] l is = ap begins_setting is
 sessions_unset (x ∷ ss) l is = ap begins_setting is.whole ∙ session_unset x is.front is.back is.first
-
-pub lines_empty : (ls : List Line) (l : List Token) → l ≡ [] → many line ls l → ls ≡ []
-lines_empty [] l e is = refl
-lines_empty (x ∷ ls) l e is = absurd (line_some x (subst (λ y. line x y) (front_empty is.front is.back (sym e ∙ is.whole)) is.first))
 
 code_some : (code : Code) → 1 ≤ number_of code
 code_some Syntax = omega arith
@@ -213,26 +202,3 @@ module _ (schema : List Declaration) (txns : List Transaction) (count : ℕ) (to
           by_other _ _ (InSessions settings front rest code there w is ends among) =
               later code there rest RunHead settings (through RunHead settings front rest w is (setting_none count tokens rest ends))
               (low_of rest there (among_suffix {element = session} (session_suffix txns) [] rest code there among))
-
-  -- where nothing stands behind the settings, nothing else is refused
-  pub front_right : (head : PartHead) (g : Given) → front_from count tokens ≡ Ok ((head, g), []) → AreNone (LastRefused schema txns count tokens)
-  front_right head g e code here refused = by_case code here refused
-    where
-      right : AreNone (FrontRefused count tokens)
-      right = (front_judged count tokens).right (head, g) [] e
-
-      empty : (other : PartHead) (settings : List (Setting × ℕ)) (rest : List Token) → Through other settings rest → rest ≡ []
-      empty other settings rest t = by_sites (last.given Sites settings) refl
-        where
-          by_sites : (n : Option ℕ) → last.given Sites settings ≡ n → rest ≡ []
-          by_sites None s = absurd (right Syntax rest (siteless other settings rest t s))
-          by_sites (Some n) s = ((front_judged count tokens).unique (other, state settings) (head, g) rest [] (sited other settings rest n t s) ((front_judged count tokens).took (head, g) [] e)).rests
-
-      by_case : (code : Code) (here : List Token) → LastRefused schema txns count tokens code here → ⊥
-      by_case _ _ (NoPart there some is) = right Syntax there (InFirst (Misplaced refl is))
-      by_case _ _ (InSettings head front rest code there w is among) = right code there (InSecond head rest (record { front = front; whole = w; is = is }) (InFirst among))
-      by_case _ _ (NoSites head settings front there w is ends none) = right Syntax there (siteless head settings there (through head settings front there w is (setting_none count tokens there ends)) none)
-      by_case _ _ (InLines settings front rest code there w is ends among) =
-          among_none {element = line} line_some (line_none schema txns (sites_set settings)) [] rest code there (empty ReplayHead settings rest (through ReplayHead settings front rest w is (setting_none count tokens rest ends))) among
-      by_case _ _ (InSessions settings front rest code there w is ends among) =
-          among_none {element = session} session_some (session_none txns) [] rest code there (empty RunHead settings rest (through RunHead settings front rest w is (setting_none count tokens rest ends))) among

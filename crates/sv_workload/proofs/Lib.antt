@@ -21,7 +21,7 @@ pub mod FrontLaws
 pub mod LastLaws
 pub mod CallLaws
 pub mod ManyLaws
-pub mod FrontDocumentLaws
+pub mod LastPartLaws
 pub mod LineLaws
 pub mod LongLaws
 pub mod CallMarkLaws

@@ -160,9 +160,11 @@ module _ (schema : List Declaration) (txns : List Transaction) (sites : ℕ) (s 
       by_line : (l : Line) (front : List Token) → tokens ≡ front ++ rest → line l front → IsBoundedLine l
       by_line (Ask n c) front w is = (within verbs.Ask n _ tokens front rest e w is).most
       by_line (Order n) front w is = (within verbs.Order n _ tokens front rest e w is).most
-      by_line (Deliver n sent) front w is = let b = within verbs.Deliver n _ tokens front rest e w is in
-          (site n b.least b.most, packet_bounded sites sent (is.then.back ++ rest) is.then.then.front (is.then.then.back ++ rest) few b.none
-          (ap (λ l. l ++ rest) is.then.then.whole ∙ append_assoc is.then.then.front is.then.then.back rest) is.then.then.first)
+      by_line (Deliver n sent) front w is = let b = within verbs.Deliver n _ tokens front rest e w is in (
+        site n b.least b.most,
+        packet_bounded sites sent (is.then.back ++ rest) is.then.then.front (is.then.then.back ++ rest) few b.none
+            (ap (λ l. l ++ rest) is.then.then.whole ∙ append_assoc is.then.then.front is.then.then.back rest) is.then.then.first,
+      )
       by_line (Settle n) front w is = let b = within verbs.Settle n _ tokens front rest e w is in site n b.least b.most
       by_line (Catch n) front w is = let b = within verbs.Catch n _ tokens front rest e w is in site n b.least b.most
       by_line (Show n t) front w is = let b = within verbs.Show n _ tokens front rest e w is in site n b.least b.most

@@ -1,11 +1,11 @@
 -- A last part as a whole: what is read of it, and which refusal is its first.
-use Rattle.std.proofs.Common.{◌≡◌, ◌≢◌, ◌∙◌, ℕ, false, List, [], ◌∷◌, ◌++◌, length, map, Ok, Err, refl, sym, ap, subst, append_assoc, append-nil}
+use Rattle.std.proofs.Common.{◌≡◌, ◌≢◌, ◌∙◌, ℕ, false, List, [], ◌∷◌, ◌++◌, map, Ok, Err, refl, sym, ap, subst, append_assoc, append-nil}
 use Rattle.sv_lex.specs.declared.tokens.Token.{Token}
 use Rattle.sv_app.specs.declared.requests.Request.{Request}
 use Rattle.sv_app.specs.Schema.{Declaration}
 use Rattle.sv_app.specs.Trees.{Transaction}
 use Rattle.sv_schema_reader.specs.declared.faults.Fault.{Fault}
-use Rattle.sv_schema_reader.specs.Grammar.{Both, ◌·◌}
+use Rattle.sv_schema_reader.specs.Grammar.{◌·◌}
 use Rattle.sv_schema_reader.specs.Reading.{Read, ◌>>=◌}
 use Rattle.sv_schema_reader.proofs.ReadLaws.{Bound, bound, same_read}
 use Rattle.sv_workload.specs.declared.lines.Steps.{Steps}
@@ -173,9 +173,11 @@ module _ (schema : List Declaration) (txns : List Transaction) (count : ℕ) (to
       by_read (Replayed rest all read s w) =
           let front = same ReplayHead rest read in
           let there : Lines schema txns rest (lines.state schema txns ls) []
-          = record { items = ls; front = b.then.back; whole = front.rests ∙ sym (append-nil b.then.back); are = b.then.then; made = refl; ends = refl } in
-          (front.givens, w ∙ ap (λ (x : Steps). works.Replay x.steps)
-          ((lines_judged schema txns (sites_in g) rest).unique all (lines.state schema txns ls) [] [] ((lines_judged schema txns (sites_in g) rest).took all [] s) there).items)
+          = record { items = ls; front = b.then.back; whole = front.rests ∙ sym (append-nil b.then.back); are = b.then.then; made = refl; ends = refl } in (
+            front.givens,
+            w ∙ ap (λ (x : Steps). works.Replay x.steps)
+                ((lines_judged schema txns (sites_in g) rest).unique all (lines.state schema txns ls) [] [] ((lines_judged schema txns (sites_in g) rest).took all [] s) there).items,
+          )
   last_only g work read (Run settings sessions) b = by_read read
     where
       same : (head : PartHead) (rest : List Token) → front_from count tokens ≡ Ok ((head, g), rest) → Same schema txns count tokens head RunHead g settings rest b.then.back

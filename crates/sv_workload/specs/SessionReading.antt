@@ -1,5 +1,5 @@
 -- Reading the sessions of a run from left to right.
-use Rattle.std.specs.Prelude.{ℕ, suc, ◌+◌, Bool, true, false, nat_le, nat_lt, if◌then◌else◌, length, map, List, [], ◌∷◌, ◌++◌, Option, Some, None, Ok, codes}
+use Rattle.std.specs.Prelude.{ℕ, suc, ◌+◌, nat_le, nat_lt, if◌then◌else◌, length, map, List, [], ◌∷◌, ◌++◌, Option, Some, None, Ok, codes}
 use Rattle.sv_lex.specs.declared.marks.Mark.TheVariants.{LeftBrace, RightBrace}
 use Rattle.sv_lex.specs.declared.tokens.Token.{Token}
 use Rattle.sv_lex.specs.declared.tokens.TokenKind.TheVariants.{Name, Mark}

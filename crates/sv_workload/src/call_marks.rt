@@ -11,7 +11,7 @@ use crate::inits::name_of;
 use crate::longs::long_call;
 use crate::rows::is_named;
 use std::alloc::Global;
-use sv_app::{Arg, Code, Ident, Ty, Txn};
+use sv_app::{Arg, Code, Ident, Txn, Ty};
 use sv_lex::Token;
 use sv_schema_reader::{Fault, Halt, Reader};
 use sv_value::NoMemory;
@@ -101,11 +101,7 @@ fn call_code(alloc: Global, txns: &[Txn], tokens: &[Token]) -> Result<Option<Cod
 }
 
 /// What is refused of the call that begins here, besides the grammar.
-pub fn call_mark(
-    alloc: Global,
-    txns: &[Txn],
-    tokens: &[Token],
-) -> Result<Option<Fault>, NoMemory>
+pub fn call_mark(alloc: Global, txns: &[Txn], tokens: &[Token]) -> Result<Option<Fault>, NoMemory>
     ensures { IfOk result (λ mark. mark ≡ call_mark (transactions_of txns.now) tokens.now) }
 {
     match call_code(alloc, txns, tokens) {

@@ -1,7 +1,7 @@
-use Rattle.std.proofs.Common.{◌≡◌, ◌∙◌, sym, ap}
+use Rattle.std.proofs.Common.{◌∙◌, sym, ap}
 use Rattle.sv_app.specs.Schema.{schema_of}
 use Rattle.sv_app.specs.Trees.{transactions_of}
-use Rattle.sv_workload.specs.Stops.{last_from, LastKept}
+use Rattle.sv_workload.specs.Stops.{last_from}
 use Rattle.sv_workload.proofs.reading.read_last.Goals as goal
 
 pub returns-in-Ok-clause-read : goal.returns-in-Ok-clause-read

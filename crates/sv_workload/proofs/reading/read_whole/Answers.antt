@@ -5,7 +5,7 @@ use Rattle.sv_app.specs.Trees.{transactions_of}
 use Rattle.sv_workload.specs.Documents.{AreParts}
 use Rattle.sv_workload.specs.Stops.{InitKept, LastKept, LastStops}
 use Rattle.sv_workload.proofs.DocumentLaws.{bare_read, bare_all, no_answer, ok_map, ok_at, last_answer, stopped, refused}
-use Rattle.sv_workload.proofs.FrontDocumentLaws.{last_read, last_all, last_stopped, last_refused}
+use Rattle.sv_workload.proofs.LastPartLaws.{last_read, last_all, last_stopped, last_refused}
 use Rattle.sv_workload.proofs.reading.read_whole.Goals as goal
 
 kept_none : (c : goal.After-bare_parts) → InitKept (schema_of c.args.app.now.tables.items) c.args.tokens.now c.in-Ok.init 0
