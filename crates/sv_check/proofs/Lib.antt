@@ -1,4 +1,5 @@
 pub mod AnswerLaws
+pub mod BoundLaws
 pub mod BrokenLaws
 pub mod ChangeLaws
 pub mod ClashLaws
@@ -9,6 +10,7 @@ pub mod LeastBrokenLaws
 pub mod LeastLaws
 pub mod LeftLaws
 pub mod ListLaws
+pub mod ReferLaws
 pub mod RuleLaws
 pub mod SampleLaws
 pub mod SetLaws
@@ -18,4 +20,3 @@ pub mod TableLaws
 pub mod ValueLaws
 pub mod VerdictLaws
 pub mod WalkLaws
-pub mod WriteLaws

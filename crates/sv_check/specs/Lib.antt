@@ -1,3 +1,4 @@
+pub mod Bounds
 pub mod Clashes
 pub mod Initial
 pub mod Least

@@ -8,6 +8,7 @@ ghost use Rattle.sv_effect.specs.declared.reads.Halt.TheVariants as halt;
 ghost use Rattle.sv_effect.specs.Fits.{AllFit};
 ghost use Rattle.sv_effect.specs.Follows.{Follows};
 ghost use Rattle.sv_effect.specs.RunChanges.{effect_of};
+ghost use Rattle.sv_check.specs.Bounds.{LeftBounded};
 ghost use Rattle.sv_check.specs.Tests.{rules_of};
 ghost use Rattle.sv_check.specs.Verdicts.{Judges, TableSays, AllSay};
 
@@ -28,7 +29,10 @@ fn first_in<R: Rows>(
     left: &[(Place, LeftRow)],
     rows: &mut R,
 ) -> Result<Verdict, Halt>
-    requires { map invariant_of invs.now ≡ rules_of (slice_get (schema_of app.now.tables.items) table) }
+    requires declared { map invariant_of invs.now ≡ rules_of (slice_get (schema_of app.now.tables.items) table) }
+    requires accepted { AcceptedSchema (schema_of app.now.tables.items) }
+    requires rows { R.is_of rows.old (schema_of app.now.tables.items) }
+    requires bounded { LeftBounded (schema_of app.now.tables.items) 0 left.now }
     ensures followed { IfOk result (λ verdict. Follows (R.tables rows.old) (R.tables rows.new) (R.noted rows.old) (R.noted rows.new)
         (TableSays (schema_of app.now.tables.items) left.now table verdict)) }
     ensures same_app { (schema : List Declaration) → R.is_of rows.old schema → R.is_of rows.new schema }
@@ -58,7 +62,9 @@ fn first_broken<R: Rows>(
     left: &[(Place, LeftRow)],
     rows: &mut R,
 ) -> Result<Verdict, Halt>
-    requires { AcceptedSchema (schema_of app.now.tables.items) }
+    requires accepted { AcceptedSchema (schema_of app.now.tables.items) }
+    requires rows { R.is_of rows.old (schema_of app.now.tables.items) }
+    requires bounded { LeftBounded (schema_of app.now.tables.items) 0 left.now }
     ensures followed { IfOk result (λ verdict. Follows (R.tables rows.old) (R.tables rows.new) (R.noted rows.old) (R.noted rows.new)
         (AllSay (schema_of app.now.tables.items) left.now verdict)) }
     ensures same_app { (schema : List Declaration) → R.is_of rows.old schema → R.is_of rows.new schema }

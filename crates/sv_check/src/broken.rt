@@ -1,6 +1,7 @@
 //! Whether a rule is broken at a key after changes.
 
 ghost use Rattle.std.specs.Prelude.{◌≡◌, true, false, Err, List, IfOk, slice_get};
+ghost use Rattle.sv_app.specs.Accepted.{AcceptedSchema};
 ghost use Rattle.sv_app.specs.Kinds.{is_grow_only};
 ghost use Rattle.sv_app.specs.Schema.{Declaration, schema_of, rule_of, invariant_of};
 ghost use Rattle.sv_app.specs.Valid.{number_of, value_of, side_of, key_by, Binds, IsInvariant};
@@ -8,6 +9,7 @@ ghost use Rattle.sv_effect.specs.declared.reads.Ask.{Ask as AskValue};
 ghost use Rattle.sv_effect.specs.declared.reads.Halt.TheVariants as halt;
 ghost use Rattle.sv_effect.specs.Agrees.{is_present};
 ghost use Rattle.sv_effect.specs.Follows.{Follows};
+ghost use Rattle.sv_check.specs.Bounds.{IsWordGot, AreBounded, LeftBounded};
 ghost use Rattle.sv_check.specs.Left.{over, left_row, is_left};
 ghost use Rattle.sv_check.specs.Least.{Says, has_absent, IsOwn, RowSays, PlaceSays};
 ghost use Rattle.sv_check.specs.Rules.{is_met};
@@ -17,7 +19,7 @@ use crate::rules::{is_listed, is_within};
 use std::alloc::Global;
 use sv_app::{App, Check, Got, Ident, Inv, InvBody, Kind, Place};
 use sv_effect::{Halt, Rows, ask_row};
-use sv_value::{Key, NoMemory, Val};
+use sv_value::{Key, Val};
 
 /// The value of a column; one that isn't there counts as zero.
 pub fn value_of(row: &LeftRow, column: &Ident) -> Got
@@ -48,22 +50,18 @@ fn is_met(row: &LeftRow, check: &Check) -> bool
     is_within(side_of(row, check.hi), side_of(row, check.lo), check.most)
 }
 
-/// The key that the value is. A column that refers holds no number beyond 64 bits, so none is refused for that.
-fn key_by(got: &Got) -> Result<Key, NoMemory>
-    ensures { IfOk result (λ key. key ≡ key_by got.now) }
+/// The key that the value is; a number is of 64 bits.
+fn key_by(got: &Got) -> Key
+    requires { IsWordGot got.now }
+    ensures { result ≡ key_by got.now }
 {
-    match got {
-        Got::Num(number) => match i64::try_from(*number) {
-            Ok(number) => Ok(Key {
-                first: Val::Int(number),
-                second: None,
-            }),
-            Err(_) => Err(NoMemory),
-        },
-        Got::Text(text) => Ok(Key {
-            first: Val::Text(*text),
-            second: None,
-        }),
+    let first = match got {
+        Got::Num(number) => Val::Int(*number as i64),
+        Got::Text(text) => Val::Text(*text),
+    };
+    Key {
+        first,
+        second: None,
     }
 }
 
@@ -150,6 +148,8 @@ fn row_breaks<R: Rows>(
 ) -> Result<bool, Halt>
     requires own { IsOwn (rule_of inv.now.body) }
     requires declared { IsInvariant (schema_of app.now.tables.items) place.now.table (invariant_of inv.now) }
+    requires accepted { AcceptedSchema (schema_of app.now.tables.items) }
+    requires bounded { AreBounded (slice_get (schema_of app.now.tables.items) place.now.table) 0 row.now.values }
     ensures followed { IfOk result (λ breaks. Follows (R.tables rows.old) (R.tables rows.new) (R.noted rows.old) (R.noted rows.new)
         (RowSays (schema_of app.now.tables.items) left.now place.now (left_row row.now) (rule_of inv.now.body) breaks)) }
     ensures same_app { (schema : List Declaration) → R.is_of rows.old schema → R.is_of rows.new schema }
@@ -168,7 +168,7 @@ fn row_breaks<R: Rows>(
             }
             let parent = Place {
                 table: table.num,
-                key: key_by(&value_of(row, col))?,
+                key: key_by(&value_of(row, col)),
             };
             let sure = !is_left(left, place);
             let found = stands(left, &parent, sure, rows)?;
@@ -189,6 +189,9 @@ pub fn is_broken<R: Rows>(
 ) -> Result<bool, Halt>
     requires own { IsOwn (rule_of inv.now.body) }
     requires declared { IsInvariant (schema_of app.now.tables.items) place.now.table (invariant_of inv.now) }
+    requires accepted { AcceptedSchema (schema_of app.now.tables.items) }
+    requires rows { R.is_of rows.old (schema_of app.now.tables.items) }
+    requires bounded { LeftBounded (schema_of app.now.tables.items) 0 left.now }
     ensures followed { IfOk result (λ broken. Follows (R.tables rows.old) (R.tables rows.new) (R.noted rows.old) (R.noted rows.new)
         (PlaceSays (schema_of app.now.tables.items) left.now place.now (rule_of inv.now.body) broken)) }
     ensures same_app { (schema : List Declaration) → R.is_of rows.old schema → R.is_of rows.new schema }

@@ -1,16 +1,18 @@
 //! The rows that changes leave, each write winning.
 
-ghost use Rattle.std.specs.Prelude.{◌≡◌, Err, false, List, IfOk, OnOk, map, slice_get, unwrap_or};
+ghost use Rattle.std.specs.Prelude.{◌≡◌, ◌≤◌, ◌<◌, ◌+◌, ℕ, suc, Err, Some, false, length, List, IfOk, OnOk, map, slice_get, unwrap_or};
 ghost use Rattle.sv_app.specs.Schema.{Declaration, schema_of};
 ghost use Rattle.sv_app.specs.Tables.{Tables};
 ghost use Rattle.sv_effect.specs.declared.reads.Ask.{Ask as AskValue};
 ghost use Rattle.sv_effect.specs.declared.reads.Halt.TheVariants as halt;
 ghost use Rattle.sv_effect.specs.Applied.{place_of, zeros_in};
 ghost use Rattle.sv_effect.specs.BareTables.{got_of};
+ghost use Rattle.sv_effect.specs.Fits.{FitsSchema, AllFit};
 ghost use Rattle.sv_effect.specs.Follows.{Follows};
 ghost use Rattle.sv_effect.specs.RowChange.{turn_of};
 ghost use Rattle.sv_effect.specs.RunChanges.{effect_of};
 ghost use Rattle.sv_effect.specs.Safe.{row_after, with_effect, with_effects};
+ghost use Rattle.sv_check.specs.Bounds.{AreWordGots, IsBounded, LeftBounded, ChangesBounded};
 ghost use Rattle.sv_check.specs.Left.{over, left_row, left_rows, start_of};
 
 use crate::left::{LeftRow, look};
@@ -32,9 +34,10 @@ fn turned(act: Act, present: bool) -> bool
 }
 
 /// The values that a change of a row that isn't kept starts from.
-#[tactic(auto, using(crate::proofs::TableLaws::declared))]
+#[tactic(auto, using(crate::proofs::TableLaws::declared, crate::proofs::BoundLaws::words))]
 fn first_values(alloc: Global, app: &App, effect: &RowEffect) -> Result<List<Got>, NoMemory>
-    ensures { IfOk result (λ values. values ≡ map got_of (zeros_in (schema_of app.now.tables.items) (place_of effect.now))) }
+    ensures words { IfOk result (λ values. AreWordGots values) }
+    ensures values { IfOk result (λ values. values ≡ map got_of (zeros_in (schema_of app.now.tables.items) (place_of effect.now))) }
 {
     let table = effect.table as usize;
     if table < app.tables.len() {
@@ -45,13 +48,16 @@ fn first_values(alloc: Global, app: &App, effect: &RowEffect) -> Result<List<Got
 }
 
 /// The row that the change starts from.
+#[tactic(auto, using(crate::proofs::BoundLaws::starting))]
 fn row_before(
     alloc: Global,
     app: &App,
     effect: &RowEffect,
     kept: Option<LeftRow>,
 ) -> Result<LeftRow, NoMemory>
-    ensures { IfOk result (λ row. left_row row ≡ start_of (schema_of app.now.tables.items) (effect_of effect.now) (left_rows kept)) }
+    ensures row { IfOk result (λ row. left_row row ≡ start_of (schema_of app.now.tables.items) (effect_of effect.now) (left_rows kept)) }
+    ensures bounded { IfOk result (λ row. (writes : ℕ) → writes ≤ 1024 → IsBounded (schema_of app.now.tables.items) writes (place_of effect.now) (left_rows kept)
+        → IsBounded (schema_of app.now.tables.items) writes (place_of effect.now) (Some (left_row row))) }
 {
     match kept {
         Some(row) => Ok(row),
@@ -62,14 +68,18 @@ fn row_before(
     }
 }
 
-/// The row after the change.
+/// The row after the change. There is room for its writes.
 fn row_after(
     alloc: Global,
     app: &App,
     effect: &RowEffect,
     kept: Option<LeftRow>,
 ) -> Result<LeftRow, NoMemory>
-    ensures { IfOk result (λ row. left_row row ≡ row_after (schema_of app.now.tables.items) (effect_of effect.now) (left_rows kept)) }
+    requires fits { FitsSchema (schema_of app.now.tables.items) effect.now }
+    requires bounded { IsBounded (schema_of app.now.tables.items) 16 (place_of effect.now) (left_rows kept) }
+    ensures row { IfOk result (λ row. left_row row ≡ row_after (schema_of app.now.tables.items) (effect_of effect.now) (left_rows kept)) }
+    ensures bounded { IfOk result (λ row. (writes : ℕ) → writes ≤ 1008 → IsBounded (schema_of app.now.tables.items) (16 + writes) (place_of effect.now) (left_rows kept)
+        → IsBounded (schema_of app.now.tables.items) writes (place_of effect.now) (Some (left_row row))) }
 {
     let LeftRow { values, present } = row_before(alloc, app, effect, kept)?;
     let mut values = values.into_vec();
@@ -80,7 +90,7 @@ fn row_after(
     })
 }
 
-/// Makes a change of the rows that earlier ones left.
+/// Makes a change of the rows that earlier ones left, fewer than 64.
 #[tactic(auto, using(crate::proofs::ChangeLaws::changing))]
 fn change<R: Rows>(
     alloc: Global,
@@ -89,6 +99,12 @@ fn change<R: Rows>(
     left: &mut Vec<(Place, LeftRow)>,
     rows: &mut R,
 ) -> Result<(), Halt>
+    requires rows { R.is_of rows.old (schema_of app.now.tables.items) }
+    requires fits { FitsSchema (schema_of app.now.tables.items) effect.now }
+    requires few { length left.old.items < 64 }
+    requires bounded { ChangesBounded (schema_of app.now.tables.items) left.old.items }
+    ensures bounded { OnOk result (ChangesBounded (schema_of app.now.tables.items) left.new.items) }
+    ensures more { OnOk result (length left.new.items ≡ suc (length left.old.items)) }
     ensures followed { OnOk result (Follows (R.tables rows.old) (R.tables rows.new) (R.noted rows.old) (R.noted rows.new)
         (λ t. over left.new.items t ≡ with_effect (schema_of app.now.tables.items) (effect_of effect.now) (over left.old.items t))) }
     ensures same_app { (schema : List Declaration) → R.is_of rows.old schema → R.is_of rows.new schema }
@@ -107,7 +123,8 @@ fn change<R: Rows>(
     Ok(())
 }
 
-/// The rows that the changes leave, the latest first.
+/// The rows that the changes leave, the latest first. The rows are of the application, the changes fit it, and there are
+/// at most 64.
 #[tactic(auto, using(crate::proofs::ChangeLaws::changing))]
 pub fn rows_after<R: Rows>(
     alloc: Global,
@@ -115,6 +132,10 @@ pub fn rows_after<R: Rows>(
     effects: &[RowEffect],
     rows: &mut R,
 ) -> Result<Vec<(Place, LeftRow)>, Halt>
+    requires rows { R.is_of rows.old (schema_of app.now.tables.items) }
+    requires fits { AllFit (schema_of app.now.tables.items) effects.now }
+    requires few { length effects.now ≤ 64 }
+    ensures bounded { IfOk result (λ left. LeftBounded (schema_of app.now.tables.items) 0 left.items) }
     ensures followed { IfOk result (λ left. Follows (R.tables rows.old) (R.tables rows.new) (R.noted rows.old) (R.noted rows.new)
         (λ t. over left.items t ≡ with_effects (schema_of app.now.tables.items) (map effect_of effects.now) t)) }
     ensures same_app { (schema : List Declaration) → R.is_of rows.old schema → R.is_of rows.new schema }

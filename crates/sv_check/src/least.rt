@@ -1,11 +1,13 @@
 //! The least key at which a rule is broken after changes.
 
 ghost use Rattle.std.specs.Prelude.{◌≡◌, false, List, Err, IfOk, if◌then◌else◌};
+ghost use Rattle.sv_app.specs.Accepted.{AcceptedSchema};
 ghost use Rattle.sv_app.specs.Schema.{Declaration, schema_of, rule_of, invariant_of};
 ghost use Rattle.sv_app.specs.Valid.{IsInvariant};
 ghost use Rattle.sv_effect.specs.declared.reads.Ask.{Ask as AskValue};
 ghost use Rattle.sv_effect.specs.declared.reads.Halt.TheVariants as halt;
 ghost use Rattle.sv_effect.specs.Follows.{Follows};
+ghost use Rattle.sv_check.specs.Bounds.{LeftBounded};
 ghost use Rattle.sv_check.specs.Least.{lesser, IsOwn, LeastAmong, LeastBroken, is_touched, walks};
 
 use crate::broken::{has_absent, is_broken};
@@ -41,6 +43,9 @@ fn least_among<R: Rows>(
 ) -> Result<Option<Key>, Halt>
     requires own { IsOwn (rule_of inv.now.body) }
     requires declared { IsInvariant (schema_of app.now.tables.items) table (invariant_of inv.now) }
+    requires accepted { AcceptedSchema (schema_of app.now.tables.items) }
+    requires rows { R.is_of rows.old (schema_of app.now.tables.items) }
+    requires bounded { LeftBounded (schema_of app.now.tables.items) 0 left.now }
     ensures followed { IfOk result (λ found. Follows (R.tables rows.old) (R.tables rows.new) (R.noted rows.old) (R.noted rows.new)
         (LeastAmong (schema_of app.now.tables.items) left.now table (rule_of inv.now.body) keys.now found)) }
     ensures same_app { (schema : List Declaration) → R.is_of rows.old schema → R.is_of rows.new schema }
@@ -91,6 +96,9 @@ pub fn least_broken<R: Rows>(
     rows: &mut R,
 ) -> Result<Option<Key>, Halt>
     requires declared { IsInvariant (schema_of app.now.tables.items) table (invariant_of inv.now) }
+    requires accepted { AcceptedSchema (schema_of app.now.tables.items) }
+    requires rows { R.is_of rows.old (schema_of app.now.tables.items) }
+    requires bounded { LeftBounded (schema_of app.now.tables.items) 0 left.now }
     ensures followed { IfOk result (λ found. Follows (R.tables rows.old) (R.tables rows.new) (R.noted rows.old) (R.noted rows.new)
         (LeastBroken (schema_of app.now.tables.items) left.now table (rule_of inv.now.body) found)) }
     ensures same_app { (schema : List Declaration) → R.is_of rows.old schema → R.is_of rows.new schema }

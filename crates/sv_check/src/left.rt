@@ -1,6 +1,6 @@
 //! Rows that changes left, and what stands at a place after the changes.
 
-ghost use Rattle.std.specs.Prelude.{◌≡◌, IfOk, Err, false, List};
+ghost use Rattle.std.specs.Prelude.{◌≡◌, ◌≤◌, ℕ, IfOk, Err, false, List};
 ghost use Rattle.std.specs.FinMap.{get};
 ghost use Rattle.sv_app.specs.Schema.{Declaration};
 ghost use Rattle.sv_app.specs.Tables.{Tables};
@@ -9,6 +9,7 @@ ghost use Rattle.sv_effect.specs.declared.reads.Halt.TheVariants as halt;
 ghost use Rattle.sv_effect.specs.Follows.{Follows};
 ghost use Rattle.sv_effect.specs.Reads.{seen_of};
 ghost use Rattle.sv_effect.specs.TablesOfCut.{is_place};
+ghost use Rattle.sv_check.specs.Bounds.{IsBounded, LeftBounded};
 ghost use Rattle.sv_check.specs.Left.{over, left_row, left_rows, hides, lent, told_row};
 
 use std::alloc::Global;
@@ -31,9 +32,10 @@ pub fn is_place(one: &Place, other: &Place) -> bool
 }
 
 /// The row that changes left there, if they left one.
-#[tactic(auto, using(crate::proofs::LeftLaws::looking))]
+#[tactic(auto, using(crate::proofs::LeftLaws::looking, crate::proofs::BoundLaws::looking))]
 pub fn left_at<'a>(left: &'a [(Place, LeftRow)], place: &Place) -> Option<&'a LeftRow>
-    ensures { (t : Tables) → get (over left.now t) place.now ≡ hides (lent result) (get t place.now) }
+    ensures value { (t : Tables) → get (over left.now t) place.now ≡ hides (lent result) (get t place.now) }
+    ensures bounded { (schema : List Declaration) (writes : ℕ) → LeftBounded schema writes left.now → IsBounded schema writes place.now (lent result) }
 {
     match left.split_first() {
         None => None,
@@ -75,7 +77,7 @@ fn told_row(alloc: Global, seen: &Seen) -> Result<Option<LeftRow>, NoMemory>
 }
 
 /// What stands at a place: the row that changes left there, else the one that is told of.
-#[tactic(auto, using(crate::proofs::LeftLaws::looking))]
+#[tactic(auto, using(crate::proofs::LeftLaws::looking, crate::proofs::BoundLaws::looking))]
 pub fn look<R: Rows>(
     alloc: Global,
     left: &[(Place, LeftRow)],
@@ -83,6 +85,7 @@ pub fn look<R: Rows>(
     place: &Place,
 ) -> Result<Option<LeftRow>, Halt>
     ensures followed { IfOk result (λ row. Follows (R.tables rows.old) (R.tables rows.new) (R.noted rows.old) (R.noted rows.new) (λ t. get (over left.now t) place.now ≡ left_rows row)) }
+    ensures bounded { IfOk result (λ row. (schema : List Declaration) (writes : ℕ) → writes ≤ 1024 → R.is_of rows.old schema → LeftBounded schema writes left.now → IsBounded schema writes place.now (left_rows row)) }
     ensures same_app { (schema : List Declaration) → R.is_of rows.old schema → R.is_of rows.new schema }
     ensures same_tables { R.tables rows.new ≡ R.tables rows.old }
     ensures same_knows { R.knows rows.new ≡ R.knows rows.old }

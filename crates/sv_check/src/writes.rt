@@ -1,6 +1,6 @@
 //! Values after writes, and the values of a row that isn't kept.
 
-ghost use Rattle.std.specs.Prelude.{◌≡◌, ◌+◌, IfSome, pos, ◌∷◌, map, OnOk, IfOk};
+ghost use Rattle.std.specs.Prelude.{◌≡◌, ◌+◌, ◌<◌, ◌^◌, ◌+ℤ◌, pos, ◌∷◌, length, map, OnOk, IfOk};
 ghost use Rattle.sv_value.specs.declared.values.Key.{Key as KeyValue};
 ghost use Rattle.sv_app.specs.declared.gots.Got.TheVariants as gots;
 ghost use Rattle.sv_app.specs.Schema.{declaration_of};
@@ -9,6 +9,8 @@ ghost use Rattle.sv_effect.specs.BareTables.{got_of};
 ghost use Rattle.sv_effect.specs.RowChange.{zero_of, key_values, from_key, values_from, zero_values};
 ghost use Rattle.sv_effect.specs.RunChanges.{written_got, with_write, with_writes};
 ghost use Rattle.sv_effect.specs.RunValues.{column};
+ghost use Rattle.sv_effect.specs.Words.{IsWordVal};
+ghost use Rattle.sv_check.specs.Bounds.{HasRoom, HaveRoom, AreWordGots, IsWordWrite, AreWordWrites};
 
 use std::alloc::Global;
 use sv_app::{Column, Got, Ident, Table, Ty};
@@ -17,7 +19,8 @@ use sv_value::{Key, List, NoMemory, Text, Val};
 
 /// A value as it stands in a row.
 pub fn got_of(val: &Val) -> Got
-    ensures { result ≡ got_of val.now }
+    ensures value { result ≡ got_of val.now }
+    ensures word { IsWordVal val.now }
 {
     match val {
         Val::Int(number) => Got::Num(*number as i128),
@@ -61,45 +64,51 @@ fn prepend<T: Drop>(first: T, rest: List<T>) -> Result<List<T>, NoMemory>
     Ok(List::from_vec(items))
 }
 
-/// A value after a write; none where it leaves 128 bits.
-fn written(write: &Write, old: &Got) -> Option<Got>
-    ensures { IfSome result (λ got. got ≡ written_got write.now old.now) }
+fn sum(number: i128, delta: i64) -> i128
+    requires { HasRoom 1 (gots.Num number) }
+    ensures { result ≡ number +ℤ delta }
+{
+    number + delta as i128
+}
+
+/// A value after a write.
+fn written(write: &Write, old: &Got) -> Got
+    requires { HasRoom 1 old.now }
+    ensures value { result ≡ written_got write.now old.now }
+    ensures word { IsWordWrite write.now }
 {
     match (write, old) {
-        (Write::Set(val), _) => Some(got_of(val)),
-        (Write::Delta(delta), Got::Num(number)) => Some(Got::Num(number.checked_add(
-            *delta as i128,
-        )?)),
-        (Write::Delta(_), Got::Text(text)) => Some(Got::Text(*text)),
+        (Write::Set(val), _) => got_of(val),
+        (Write::Delta(delta), Got::Num(number)) => Got::Num(sum(*number, *delta)),
+        (Write::Delta(delta), Got::Text(text)) => {
+            let _delta = *delta;
+            Got::Text(*text)
+        }
     }
 }
 
 fn make_write(row: &mut Vec<Got>, col: u16, write: &Write) -> Result<(), NoMemory>
-    ensures { OnOk result (row.new.items ≡ with_write (col, write.now) row.old.items) }
+    requires { HasRoom 1 (column row.old.items col) }
+    ensures value { OnOk result (row.new.items ≡ with_write (col, write.now) row.old.items) }
+    ensures word { IsWordWrite write.now }
 {
-    let Some(got) = written(write, &column(row, col)) else {
-        return Err(NoMemory);
-    };
+    let got = written(write, &column(row, col));
     put_got(row, col, &got)
 }
 
-/// Makes writes to the values of a row, one after the other.
-#[tactic(auto, using(crate::proofs::WriteLaws::writing))]
+/// Makes writes to the values of a row, one after the other. There is room for them.
+#[tactic(auto, using(crate::proofs::BoundLaws::writing))]
 pub fn make_writes(row: &mut Vec<Got>, writes: &[(u16, Write)]) -> Result<(), NoMemory>
-    ensures { OnOk result (row.new.items ≡ with_writes writes.now row.old.items) }
+    requires { HaveRoom (length writes.now) row.old.items }
+    ensures value { OnOk result (row.new.items ≡ with_writes writes.now row.old.items) }
+    ensures words { OnOk result (AreWordWrites writes.now) }
 {
-    for (col, write) in writes {
-        make_write(row, *col, write)?;
-    }
-    Ok(())
-}
-
-fn next_number(number: u16) -> Result<u16, NoMemory>
-    ensures { IfOk result (λ next. next ≡ number + 1) }
-{
-    match number.checked_add(1) {
-        Some(next) => Ok(next),
-        None => Err(NoMemory),
+    match writes {
+        [] => Ok(()),
+        [(col, write), rest @ ..] => {
+            make_write(row, *col, write)?;
+            make_writes(row, rest)
+        }
     }
 }
 
@@ -115,7 +124,7 @@ fn zero_of(ty: Ty) -> Val
     }
 }
 
-fn from_key(names: &[Ident], parts: &[Val], number: u16, zero: &Val) -> Val
+fn from_key(names: &[Ident], parts: &[Val], number: usize, zero: &Val) -> Val
     ensures { result ≡ from_key names.now parts.now number zero.now }
 {
     match names {
@@ -123,7 +132,7 @@ fn from_key(names: &[Ident], parts: &[Val], number: u16, zero: &Val) -> Val
         [name, names @ ..] => match parts {
             [] => *zero,
             [part, parts @ ..] => {
-                if name.num == number {
+                if name.num as usize == number {
                     *part
                 } else {
                     from_key(names, parts, number, zero)
@@ -133,19 +142,22 @@ fn from_key(names: &[Ident], parts: &[Val], number: u16, zero: &Val) -> Val
     }
 }
 
+#[tactic(auto, using(crate::proofs::BoundLaws::words))]
 fn zeros_from(
     alloc: Global,
     table: &Table,
     parts: &[Val],
-    number: u16,
+    number: usize,
     columns: &[Column],
 ) -> Result<List<Got>, NoMemory>
-    ensures { IfOk result (λ row. (key : KeyValue) → key_values key ≡ parts.now → row ≡ map got_of (values_from (declaration_of table.now) key number columns.now)) }
+    requires { number + length columns.now < 2 ^ 63 }
+    ensures values { IfOk result (λ row. (key : KeyValue) → key_values key ≡ parts.now → row ≡ map got_of (values_from (declaration_of table.now) key number columns.now)) }
+    ensures words { IfOk result (λ row. AreWordGots row) }
 {
     match columns {
         [] => Ok(List::new(alloc)),
         [first, rest @ ..] => {
-            let later = zeros_from(alloc, table, parts, next_number(number)?, rest)?;
+            let later = zeros_from(alloc, table, parts, number + 1, rest)?;
             let val = from_key(&table.key, parts, number, &zero_of(first.ty));
             prepend(got_of(&val), later)
         }
@@ -166,7 +178,8 @@ fn key_values(alloc: Global, key: &Key) -> Result<List<Val>, NoMemory>
 
 /// The values of a row that isn't kept.
 pub fn zeros(alloc: Global, table: &Table, key: &Key) -> Result<List<Got>, NoMemory>
-    ensures { IfOk result (λ row. row ≡ map got_of (zero_values (declaration_of table.now) key.now)) }
+    ensures values { IfOk result (λ row. row ≡ map got_of (zero_values (declaration_of table.now) key.now)) }
+    ensures words { IfOk result (λ row. AreWordGots row) }
 {
     let parts = key_values(alloc, key)?;
     zeros_from(alloc, table, parts.items(), 0, &table.columns)

@@ -1,8 +1,9 @@
-use Rattle.std.proofs.Common.{◌≡◌, List, drop, map}
+use Rattle.std.proofs.Common.{◌≡◌, List, length, drop, map}
 use Rattle.sv_app.specs.Schema.{Declaration, schema_of}
 use Rattle.sv_effect.specs.Follows.{Follows}
 use Rattle.sv_effect.specs.RunChanges.{effect_of}
 use Rattle.sv_effect.specs.Safe.{with_effects}
+use Rattle.sv_check.specs.Bounds.{ChangesBounded}
 use Rattle.sv_check.specs.Left.{over}
 use Rattle.sv_check.proofs.changes.rows_after.Given as goal
 
@@ -12,6 +13,8 @@ invariant-loop-effect g l =
     record {
       made : Follows (R.tables l.fn.rows) (R.tables l.rows) (R.noted l.fn.rows) (R.noted l.rows)
           (λ t. with_effects (schema_of l.app.tables.items) (map effect_of (drop l.effect-index l.effects)) (over l.left.items t) ≡ with_effects (schema_of l.app.tables.items) (map effect_of l.effects) t);
+      bounded : ChangesBounded (schema_of l.app.tables.items) l.left.items;
+      many : length l.left.items ≡ l.effect-index;
       same_app : (schema : List Declaration) → R.is_of l.fn.rows schema → R.is_of l.rows schema;
       same_tables : R.tables l.rows ≡ R.tables l.fn.rows;
       same_knows : R.knows l.rows ≡ R.knows l.fn.rows;

@@ -1,0 +1,236 @@
+-- Numbers of rows stay within their bounds.
+use Rattle.std.proofs.Common.{◌≡◌, ℕ, zero, suc, ◌+◌, ◌*◌, ◌<◌, ◌≤◌, ℤ, pos, Bool, true, false, List, [], ◌∷◌, ◌-◌, length, get_or, Option, Some, slice_get, refl, sym, ap, subst, ◌∙◌, arith}
+use Rattle.std.proofs.lemmas.Int.{ints}
+use Rattle.std.proofs.lemmas.Map.Views.{tells_apart}
+use Rattle.sv_value.specs.declared.values.Val.{Val}
+use Rattle.sv_value.specs.declared.values.Val.TheVariants as vals
+use Rattle.sv_app.specs.declared.gots.Got.{Got}
+use Rattle.sv_app.specs.declared.gots.Got.TheVariants.{Num, Text}
+use Rattle.sv_app.specs.declared.places.Place.{Place}
+use Rattle.sv_app.specs.declared.schemas.Column.{Column}
+use Rattle.sv_app.specs.declared.schemas.Merge.{Merge}
+use Rattle.sv_app.specs.declared.schemas.Merge.TheVariants.{NumDelta, Lww, Plain}
+use Rattle.sv_app.specs.Lookups.{holds_of}
+use Rattle.sv_app.specs.Schema.{Declaration}
+use Rattle.sv_app.specs.Slots.{with_item}
+use Rattle.sv_app.specs.Typing.{is_numdelta}
+use Rattle.sv_app.proofs.PlaceLaws.{exact_places}
+use Rattle.sv_effect.specs.declared.ops.Write.{Write}
+use Rattle.sv_effect.specs.declared.ops.Write.TheVariants.{Delta, Set}
+use Rattle.sv_effect.specs.BareTables.{got_of}
+use Rattle.sv_effect.specs.declared.ops.RowEffect.{RowEffect}
+use Rattle.sv_effect.specs.Fits.{AreWrites, IsWrite, FitsSchema, AllFit}
+use Rattle.sv_effect.specs.Reads.{SeenValue}
+use Rattle.sv_effect.specs.RowsFit.{IsWord, NumberFits, GotFits, GotsFit, RowFits, SeenFits}
+use Rattle.sv_effect.specs.RunChanges.{written_got, with_write, with_writes}
+use Rattle.sv_effect.specs.RunValues.{column}
+use Rattle.sv_effect.specs.Words.{IsWordVal}
+use Rattle.sv_effect.specs.TablesOfCut.{is_place}
+use Rattle.sv_check.specs.declared.left.LeftRow.{LeftRow}
+use Rattle.sv_check.specs.Bounds.{HasRoom, HaveRoom, IsWordGot, AreWordGots, IsWordWrite, AreWordWrites, is_counter, AreBounded, IsBounded, LeftBounded, ChangesBounded}
+use Rattle.sv_check.specs.Left.{left_row, left_rows, told_row}
+
+-- what holds of each column holds still where an item of which it holds is put
+pub put_all : (P : ℕ → Got → Type 0) (row : List Got) (c : ℕ) (x : Got) → ((d : ℕ) → P d (column row d)) → P c x → (d : ℕ) → P d (column (with_item (Num (pos 0)) c x row) d)
+put_all P [] zero x h p zero = p
+put_all P [] zero x h p (suc d) = h (suc d)
+put_all P [] (suc c) x h p zero = h zero
+put_all P [] (suc c) x h p (suc d) = put_all (λ n. P (suc n)) [] c x (λ n. h (suc n)) p d
+put_all P (y ∷ row) zero x h p zero = p
+put_all P (y ∷ row) zero x h p (suc d) = h (suc d)
+put_all P (y ∷ row) (suc c) x h p zero = h zero
+put_all P (y ∷ row) (suc c) x h p (suc d) = put_all (λ n. P (suc n)) row c x (λ n. h (suc n)) p d
+
+-- behind the end stands zero
+pub behind : (row : List Got) → column row (length row) ≡ Num (pos 0)
+behind [] = refl
+behind (x ∷ row) = behind row
+
+pub room_less : (k m : ℕ) (got : Got) → k ≤ m → HasRoom m got → HasRoom k got
+room_less k m (Num n) le h = (omega (arith, ints, le, h.0), omega (arith, ints, le, h.1))
+room_less k m (Text text) le h = tt
+
+-- a word has as much room as zero with one write more
+word_room : (k : ℕ) (got : Got) → HasRoom (suc k) (Num (pos 0)) → IsWordGot got → HasRoom k got
+word_room k (Num n) zeroes h = (omega (arith, ints, zeroes.0, zeroes.1, h.0, h.1), omega (arith, ints, zeroes.0, zeroes.1, h.0, h.1))
+word_room k (Text text) zeroes h = tt
+
+pub set_word : (v : Val) → IsWordVal v → IsWordGot (got_of v)
+set_word (vals.Int n) h = h
+set_word (vals.Text text) h = h
+
+written_room : (k : ℕ) (w : Write) (got : Got) → HasRoom (suc k) (Num (pos 0)) → HasRoom (suc k) got → IsWordWrite w → HasRoom k (written_got w got)
+written_room k (Set v) got zeroes h word = word_room k (got_of v) zeroes (set_word v word)
+written_room k (Delta d) (Num n) zeroes h word = (omega (arith, ints, h.0, h.1, word.0, word.1), omega (arith, ints, h.0, h.1, word.0, word.1))
+written_room k (Delta d) (Text text) zeroes h word = tt
+
+pub write_room : (k n : ℕ) (w : ℕ × Write) (row : List Got) → k < n → HaveRoom n row → IsWordWrite w.1 → HaveRoom k (with_write w row)
+write_room k n w row less h word = record {
+  each = put_all (λ c. HasRoom k) row w.0 (written_got w.1 (column row w.0)) (λ c. room_less k n (column row c) (omega (arith, less)) (h.each c))
+      (written_room k w.1 (column row w.0) (subst (HasRoom (suc k)) (behind row) (more (length row))) (more w.0) word);
+}
+  where
+    more : (c : ℕ) → HasRoom (suc k) (column row c)
+    more c = room_less (suc k) n (column row c) (omega (arith, less)) (h.each c)
+
+-- a write to a column of the table
+word_kept : (table : Declaration) (w : ℕ × Write) (got : Got) → IsWrite table w.0 w.1 → IsWordWrite w.1 → is_counter (Some table) w.0 ≡ false → IsWordGot (written_got w.1 got)
+word_kept table (c, Set v) got is word plain = set_word v word
+word_kept table (c, Delta d) got is word plain = absurd (clash plain)
+  where
+    counts : is_counter (Some table) c ≡ true
+    counts = ap (λ o. holds_of o (λ column. is_numdelta column.merge)) is.declared ∙ ap is_numdelta is.fits
+
+    clash : is_counter (Some table) c ≡ false → ⊥
+    clash e = let no : true ≡ false = sym counts ∙ e in cc
+
+pub write_bounded : (table : Declaration) (k n : ℕ) (w : ℕ × Write) (row : List Got) → k < n → IsWrite table w.0 w.1 → IsWordWrite w.1 → AreBounded (Some table) n row → AreBounded (Some table) k (with_write w row)
+write_bounded table k n w row less is word before = record {
+  room = write_room k n w row less before.room word;
+  words = put_all (λ c got. is_counter (Some table) c ≡ false → IsWordGot got) row w.0 (written_got w.1 (column row w.0)) before.words (λ plain. word_kept table w (column row w.0) is word plain);
+}
+
+pub writes_bounded : (table : Declaration) (k n : ℕ) (ws : List (ℕ × Write)) (row : List Got) → length ws + k ≤ n → AreWrites table ws → AreWordWrites ws → AreBounded (Some table) n row
+    → AreBounded (Some table) k (with_writes ws row)
+writes_bounded table k n [] row le are words before = record {
+  room = record { each = λ c. room_less k n (column row c) (omega (arith, le)) (before.room.each c) };
+  words = before.words;
+}
+writes_bounded table k n (w ∷ ws) row le are words before =
+    writes_bounded table k (length ws + k) ws (with_write w row) (omega arith) are.1 words.1 (write_bounded table (length ws + k) n w row (omega (arith, le)) are.0 words.0 before)
+
+-- room for writes in the code
+pub first_room : (k : ℕ) (row : List Got) (c : ℕ) → HaveRoom k row → 1 ≤ k → HasRoom 1 (column row c)
+first_room k row c h le = room_less 1 k (column row c) le (h.each c)
+
+pub rest_room : (k n : ℕ) (c : ℕ) (w : Write) (row new : List Got) → HaveRoom n row → k < n → IsWordWrite w → new ≡ with_write (c, w) row → HaveRoom k new
+rest_room k n c w row new h less word is = subst (HaveRoom k) (sym is) (write_room k n (c, w) row less h word)
+
+pub ruleset writing = (first_room, rest_room)
+
+-- a row of words
+pub no_words : AreWordGots []
+no_words = record { each = λ c. (omega (arith, ints), omega (arith, ints)) }
+
+pub more_words : (got : Got) (row : List Got) → IsWordGot got → AreWordGots row → AreWordGots (got ∷ row)
+more_words got row word words = record { each = at }
+  where
+    at : (c : ℕ) → IsWordGot (column (got ∷ row) c)
+    at zero = word
+    at (suc c) = words.each c
+
+pub ruleset words = (no_words, more_words, set_word)
+
+-- more room is room
+bounded_less : (table : Option Declaration) (k n : ℕ) (values : List Got) → k ≤ n → AreBounded table n values → AreBounded table k values
+bounded_less table k n values le h = record {
+  room = record { each = λ c. room_less k n (column values c) le (h.room.each c) };
+  words = h.words;
+}
+
+pub left_less : (schema : List Declaration) (k n : ℕ) (left : List (Place × LeftRow)) → k ≤ n → LeftBounded schema n left → LeftBounded schema k left
+left_less schema k n [] le h = tt
+left_less schema k n (e ∷ left) le h = (bounded_less (slice_get schema e.0.table) k n e.1.values le h.0, left_less schema k n left le h.1)
+
+-- words have room for all writes
+words_room : (k : ℕ) (got : Got) → k ≤ 1024 → IsWordGot got → HasRoom k got
+words_room k (Num n) le h = (omega (arith, ints, le, h.0, h.1), omega (arith, ints, le, h.0, h.1))
+words_room k (Text text) le h = tt
+
+pub words_bounded : (table : Option Declaration) (k : ℕ) (values : List Got) → k ≤ 1024 → AreWordGots values → AreBounded table k values
+words_bounded table k values le h = record {
+  room = record { each = λ c. words_room k (column values c) le (h.each c) };
+  words = λ c plain. h.each c;
+}
+
+-- values that fit the columns of their table
+number_room : (merge : Merge) (n : ℤ) (k : ℕ) → k ≤ 1024 → NumberFits merge n → HasRoom k (Num n)
+number_room NumDelta n k le h = (omega (arith, ints, le, h.0, h.1), omega (arith, ints, le, h.0, h.1))
+number_room Lww n k le h = words_room k (Num n) le h
+number_room Plain n k le h = words_room k (Num n) le h
+
+number_word : (merge : Merge) (n : ℤ) → is_numdelta merge ≡ false → NumberFits merge n → IsWord n
+number_word NumDelta n plain h = absurd cc
+number_word Lww n plain h = h
+number_word Plain n plain h = h
+
+fit_room : (c : Column) (got : Got) (k : ℕ) → k ≤ 1024 → GotFits c got → HasRoom k got
+fit_room c (Num n) k le h = number_room c.merge n k le h.1
+fit_room c (Text text) k le h = tt
+
+fit_word : (c : Column) (got : Got) → is_numdelta c.merge ≡ false → GotFits c got → IsWordGot got
+fit_word c (Num n) plain h = number_word c.merge n plain h.1
+fit_word c (Text text) plain h = tt
+
+zero_word : IsWordGot (Num (pos 0))
+zero_word = (omega (arith, ints), omega (arith, ints))
+
+fits_room : (columns : List Column) (values : List Got) (k : ℕ) → k ≤ 1024 → GotsFit columns values → (c : ℕ) → HasRoom k (column values c)
+fits_room [] [] k le h c = words_room k (Num (pos 0)) le zero_word
+fits_room [] (got ∷ values) k le h c = absurd h
+fits_room (x ∷ columns) [] k le h c = absurd h
+fits_room (x ∷ columns) (got ∷ values) k le h zero = fit_room x got k le h.0
+fits_room (x ∷ columns) (got ∷ values) k le h (suc c) = fits_room columns values k le h.1 c
+
+fits_words : (columns : List Column) (values : List Got) → GotsFit columns values → (c : ℕ) → holds_of (slice_get columns c) (λ x. is_numdelta x.merge) ≡ false → IsWordGot (column values c)
+fits_words [] [] h c plain = zero_word
+fits_words [] (got ∷ values) h c plain = absurd h
+fits_words (x ∷ columns) [] h c plain = absurd h
+fits_words (x ∷ columns) (got ∷ values) h zero plain = fit_word x got plain h.0
+fits_words (x ∷ columns) (got ∷ values) h (suc c) plain = fits_words columns values h.1 c plain
+
+-- what was told of a row
+pub told_bounded : (schema : List Declaration) (k : ℕ) (place : Place) (seen : SeenValue) → k ≤ 1024 → SeenFits schema place seen → IsBounded schema k place (told_row seen)
+told_bounded schema k place seen le fits = split seen.kept fits
+  where
+    split : (kept : Bool) → RowFits schema place kept seen.present seen.values → IsBounded schema k place (told_row (record { kept = kept; present = seen.present; values = seen.values }))
+    split false h = tt
+    split true h = subst (λ o. AreBounded o k seen.values) (sym h.key.declared) (record {
+      room = record { each = fits_room h.key.table.columns seen.values k le h.fits };
+      words = fits_words h.key.table.columns seen.values h.fits;
+    })
+
+-- a row that changes left
+pub bounded_here : (schema : List Declaration) (k : ℕ) (e : Place × LeftRow) (es : List (Place × LeftRow)) (p : Place) → is_place p e.0 ≡ true → LeftBounded schema k (e ∷ es)
+    → IsBounded schema k p (Some (left_row e.1))
+bounded_here schema k e es p same h = subst (λ q. IsBounded schema k q (Some (left_row e.1))) (sym (tells_apart exact_places p e.0 same)) h.0
+
+pub bounded_past : (schema : List Declaration) (k : ℕ) (e : Place × LeftRow) (es : List (Place × LeftRow)) → LeftBounded schema k (e ∷ es) → LeftBounded schema k es
+bounded_past schema k e es h = h.1
+
+pub ruleset looking = (bounded_here, bounded_past, told_bounded)
+
+-- the row after a change
+pub some_bounded : (schema : List Declaration) (k : ℕ) (place : Place) (row : LeftRow) (kept : Option LeftRow) → kept ≡ Some row → IsBounded schema k place (left_rows kept) → IsBounded schema k place (Some (left_row row))
+some_bounded schema k place row kept is h = subst (λ o. IsBounded schema k place (left_rows o)) is h
+
+pub row_bounded : (schema : List Declaration) (e : RowEffect) (k : ℕ) (old new : List Got) → FitsSchema schema e → length e.writes.items ≤ 16 → AreWordWrites e.writes.items
+    → new ≡ with_writes e.writes.items old → AreBounded (slice_get schema e.table) (16 + k) old → AreBounded (slice_get schema e.table) k new
+row_bounded schema e k old new fits few words is h =
+    subst (λ o. AreBounded o k new) (sym fits.declared) (subst (AreBounded (Some fits.table) k) (sym is)
+    (writes_bounded fits.table k (16 + k) e.writes.items old (omega (arith, few)) fits.fits.writes words (subst (λ o. AreBounded o (16 + k) old) fits.declared h)))
+
+pub room_few : (k n : ℕ) (old new : List Got) → k ≤ n → new ≡ old → HaveRoom n old → HaveRoom k new
+room_few k n old new le is h = subst (HaveRoom k) (sym is) (record { each = λ c. room_less k n (column old c) le (h.each c) })
+
+-- one change more
+pub change_bounded : (schema : List Declaration) (place : Place) (row : LeftRow) (left new : List (Place × LeftRow)) → length left < 64 → ChangesBounded schema left
+    → ((k : ℕ) → k ≤ 1008 → LeftBounded schema (16 + k) left → IsBounded schema k place (Some (left_row row))) → new ≡ (place, row) ∷ left → ChangesBounded schema new
+change_bounded schema place row left new less h made is = subst (ChangesBounded schema) (sym is)
+    (made (16 * (64 - suc (length left))) le (subst (λ n. LeftBounded schema n left) same h), left_less schema (16 * (64 - suc (length left))) (16 * (64 - length left)) left more h)
+  where
+    le : 16 * (64 - suc (length left)) ≤ 1008
+    le = omega arith
+
+    more : 16 * (64 - suc (length left)) ≤ 16 * (64 - length left)
+    more = omega arith
+
+    same : 16 * (64 - length left) ≡ 16 + 16 * (64 - suc (length left))
+    same = omega (arith, less)
+
+pub fits_at : (schema : List Declaration) (es : List RowEffect) (i : ℕ) (d : RowEffect) → i < length es → AllFit schema es → FitsSchema schema (get_or es i d)
+fits_at schema [] i d less fits = absurd (omega (arith, less))
+fits_at schema (e ∷ es) zero d less fits = fits.0
+fits_at schema (e ∷ es) (suc i) d less fits = fits_at schema es i d (omega (arith, less)) fits.1
+
+pub ruleset starting = (words_bounded, some_bounded)
