@@ -1,3 +1,4 @@
+pub mod KeepLaws
 pub mod KeyLaws
 pub mod LaidLaws
 pub mod LookLaws
