@@ -1,10 +1,16 @@
 pub mod BlockLaws
+pub mod BodyLaws
 pub mod ChangeLaws
+pub mod DeclareLaws
 pub mod InsertLaws
 pub mod LoopLaws
+pub mod NamingLaws
+pub mod OpeningLaws
+pub mod RunLaws
 pub mod SchemaLaws
 pub mod SlotLaws
 pub mod StatementLaws
 pub mod TermLaws
+pub mod UnitLaws
 pub mod UpdateLaws
 pub mod WriteLaws

@@ -70,20 +70,34 @@ table_named schema ident t own e = named_at (λ (d : Declaration). d.name) schem
 pub column_named : (t : Declaration) (ident : Ident) (k : Column) → numbered_in (column_names t) ident ≡ ident → column_of t ident ≡ Some k → slice_get t.columns ident.num ≡ Some k
 column_named t ident k own e = named_at (λ (c : Column). c.name) t.columns ident k own e
 
--- where no name stands twice a column is the first of its name
-pub own_column : (columns : List Column) (n : ℕ) (k : Column) → repeats (map (λ (c : Column). c.name) columns) ≡ [] → slice_get columns n ≡ Some k → find (λ (c : Column). is_named c.name k.name) columns ≡ Some k
-own_column [] n k e at = absurd cc
-own_column (y ∷ ys) zero k e at =
-    let same : y ≡ k = cc in
-    let itself : is_named y.name k.name ≡ true = subst (λ (z : Column). is_named y.name z.name ≡ true) same (nat_list_eq_equiv.refl y.name.name) in
-    rw itself (ap (λ (z : Column). Some z) same)
-own_column (y ∷ ys) (suc n) k e at =
-    let names : List Ident = map (λ (c : Column). c.name) ys in
-    let seconds : List Refusal = flat_map (λ later. fault_if (is_named later y.name) later.spot Twice) names in
-    let here : slice_get names n ≡ Some k.name = slice_get-map (λ (c : Column). c.name) ys n ∙ ap (λ o. option_map (λ (c : Column). c.name) o) at in
-    let apart : is_named k.name y.name ≡ false = no_fault (is_named k.name y.name) k.name.spot Twice (each_none (λ later. fault_if (is_named later y.name) later.spot Twice) names n k.name (front_none seconds (repeats names) e) here) in
-    let other : is_named y.name k.name ≡ false = nat_list_eq_equiv.symm y.name.name k.name.name ∙ apart in
-    rw other (own_column ys n k (back_none seconds (repeats names) e) at)
+-- where no name stands twice each is the first of its name
+pub own_first : {A : Type 0} (f : A → Ident) (xs : List A) (n : ℕ) (x : A) → repeats (map f xs) ≡ [] → slice_get xs n ≡ Some x → find (λ a. is_named (f a) (f x)) xs ≡ Some x
+own_first f [] n x e at = absurd cc
+own_first f (y ∷ ys) zero x e at =
+    let same : y ≡ x = cc in
+    let itself : is_named (f y) (f x) ≡ true = subst (λ z. is_named (f y) (f z) ≡ true) same (nat_list_eq_equiv.refl (f y).name) in
+    rw itself (ap (λ z. Some z) same)
+own_first f (y ∷ ys) (suc n) x e at =
+    let names : List Ident = map f ys in
+    let seconds : List Refusal = flat_map (λ later. fault_if (is_named later (f y)) later.spot Twice) names in
+    let here : slice_get names n ≡ Some (f x) = slice_get-map f ys n ∙ ap (λ o. option_map f o) at in
+    let apart : is_named (f x) (f y) ≡ false = no_fault (is_named (f x) (f y)) (f x).spot Twice (each_none (λ later. fault_if (is_named later (f y)) later.spot Twice) names n (f x) (front_none seconds (repeats names) e) here) in
+    let other : is_named (f y) (f x) ≡ false = nat_list_eq_equiv.symm (f y).name (f x).name ∙ apart in
+    rw other (own_first f ys n x (back_none seconds (repeats names) e) at)
+
+-- and its number is its place
+pub own_place : (names : List Ident) (n : ℕ) (x : Ident) → repeats names ≡ [] → slice_get names n ≡ Some x → place_of x names ≡ Some n
+own_place [] n x e at = absurd cc
+own_place (y ∷ ys) zero x e at =
+    let same : y ≡ x = cc in
+    let itself : is_named y x ≡ true = subst (λ z. is_named y z ≡ true) same (nat_list_eq_equiv.refl y.name) in
+    rw itself refl
+own_place (y ∷ ys) (suc n) x e at =
+    let seconds : List Refusal = flat_map (λ later. fault_if (is_named later y) later.spot Twice) ys in
+    let apart : is_named x y ≡ false = no_fault (is_named x y) x.spot Twice (each_none (λ later. fault_if (is_named later y) later.spot Twice) ys n x (front_none seconds (repeats ys) e) at) in
+    let other : is_named y x ≡ false = nat_list_eq_equiv.symm y.name x.name ∙ apart in
+    let rest : place_of x ys ≡ Some n = own_place ys n x (back_none seconds (repeats ys) e) at in
+    rw (other, rest) refl
 
 pub columns_once : (schema : List Declaration) → AcceptedSchema schema → (number : ℕ) (t : Declaration) → slice_get schema number ≡ Some t → repeats (column_names t) ≡ []
 columns_once schema accepted number t at = front_none (repeats (column_names t)) _ (columns_right schema accepted number t at)

@@ -4,7 +4,7 @@ use Rattle.std.proofs.lemmas.Bool.Decides.{nat_tests}
 use Rattle.sv_app.specs.Slots.{item, with_item}
 use Rattle.sv_effect.proofs.TestLaws.{test_same}
 
-item_here : {A : Type 0} (d x : A) (n : ℕ) (xs : List A) → item d (with_item d n x xs) n ≡ x
+pub item_here : {A : Type 0} (d x : A) (n : ℕ) (xs : List A) → item d (with_item d n x xs) n ≡ x
 item_here d x zero [] = refl
 item_here d x zero (y ∷ ys) = refl
 item_here d x (suc n) [] = item_here d x n []
@@ -14,7 +14,7 @@ nothing_there : {A : Type 0} (d : A) (n : ℕ) → item d [] n ≡ d
 nothing_there d zero = refl
 nothing_there d (suc n) = refl
 
-item_other : {A : Type 0} (d x : A) (n m : ℕ) (xs : List A) → (n ≡ m → ⊥) → item d (with_item d n x xs) m ≡ item d xs m
+pub item_other : {A : Type 0} (d x : A) (n m : ℕ) (xs : List A) → (n ≡ m → ⊥) → item d (with_item d n x xs) m ≡ item d xs m
 item_other d x zero zero xs differ = absurd (differ refl)
 item_other d x zero (suc m) [] differ = nothing_there d m
 item_other d x zero (suc m) (y ∷ ys) differ = refl

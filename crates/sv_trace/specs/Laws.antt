@@ -1,0 +1,29 @@
+-- What the meaning of runs promises: a run of an accepted application, on arguments that fit and on tables of its rows, has a trace of shaped instances
+-- and at most 64 changes, each of which fits the schema.
+use Rattle.std.specs.Prelude.{◌≡◌, ◌≤◌, List, length, Some, slice_get}
+use Rattle.std.specs.FinMap.{get}
+use Rattle.std.specs.List.{All}
+use Rattle.sv_app.specs.declared.places.Place.{Place}
+use Rattle.sv_app.specs.declared.requests.Request.{Request}
+use Rattle.sv_app.specs.Accepted.{AcceptedApp}
+use Rattle.sv_app.specs.Fitting.{ArgsFit}
+use Rattle.sv_app.specs.Schema.{Declaration}
+use Rattle.sv_app.specs.Shaped.{Shaped}
+use Rattle.sv_app.specs.Tables.{Row, Tables}
+use Rattle.sv_app.specs.Trees.{Transaction}
+use Rattle.sv_effect.specs.RowsFit.{ValuesAreOf}
+use Rattle.sv_effect.specs.Run.{RunResult, run}
+use Rattle.sv_trace.specs.Standing.{EffectFits}
+
+-- each row is of the application
+abbrev pub RowsAreOf : List Declaration → Tables → Type 0
+RowsAreOf schema t = (place : Place) (row : Row) → get t place ≡ Some row → ValuesAreOf schema place row.values
+
+pub record IsShapedRun (schema : List Declaration) (txn : Transaction) (ran : RunResult) : Type 0 where
+  pub trace : All (Shaped schema txn) ran.trace
+  pub changes : All (EffectFits schema) ran.effects
+  pub few : length ran.effects ≤ 64
+
+abbrev pub RunsAreShaped : Type 0
+RunsAreShaped = (schema : List Declaration) (txns : List Transaction) (request : Request) (txn : Transaction) (t : Tables) → AcceptedApp schema txns → slice_get txns request.txn ≡ Some txn → ArgsFit txn.params request.args
+    → RowsAreOf schema t → IsShapedRun schema txn (run schema txns request t)
