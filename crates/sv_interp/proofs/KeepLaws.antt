@@ -22,32 +22,12 @@ use Rattle.sv_effect.specs.declared.outcomes.Outcome.{Outcome}
 use Rattle.sv_effect.specs.declared.outcomes.Outcome.TheVariants as outcomes
 use Rattle.sv_effect.specs.Run.{Stand, Flow, Goes, Ends, Setting, run_command, with_scope, with_row, with_value, place_of_row, on_present, inserted, updated, removed, begun, closed, left_loop, items_of}
 use Rattle.sv_effect.specs.RunChanges.{key_in}
-use Rattle.sv_effect.specs.RunValues.{Progress, Gives, value_of, values_of, truth_of}
+use Rattle.sv_effect.specs.RunValues.{Progress, Gives, values_of, truth_of}
 use Rattle.sv_interp.specs.declared.states.OwnRow.{OwnRow}
 use Rattle.sv_interp.specs.declared.states.State.{State}
 use Rattle.sv_interp.specs.Machine.{over, own_row, own_rows, scope_of, evaluated, stand, flow_of}
-use Rattle.sv_interp.specs.Keeping.{
-  calm,
-  IsSettingOf,
-  AreIntegers,
-  Closes,
-  Looped,
-  RowLoopIn,
-  ItemLoopIn,
-  Part,
-  Statements,
-  Statement,
-  Turn,
-  RowTurns,
-  ItemTurns,
-  RowLoop,
-  ItemLoop,
-  Keeps,
-  AreFit,
-  Found,
-  LooksUp,
-}
-use Rattle.sv_trace.specs.Standing.{Frame, IsFrame, RowAt, BlockIn, CommandIn, Holds, Passes, Makes, Turned}
+use Rattle.sv_interp.specs.Keeping.{calm, AreIntegers, RowLoopIn, ItemLoopIn, Part, Statements, Statement, Turn, RowTurns, ItemTurns, RowLoop, ItemLoop, Keeps, AreFit, LooksUp}
+use Rattle.sv_trace.specs.Standing.{Frame, RowAt, BlockIn, Holds, Passes, Makes, Turned}
 use Rattle.sv_trace.proofs.BlockLaws.{first_in, rest_in, passes_finish, passes_then}
 use Rattle.sv_trace.proofs.ChangeLaws.{own_rows_fit, makes_remove}
 use Rattle.sv_trace.proofs.InsertLaws.{makes_insert}

@@ -6,6 +6,7 @@ pub mod LoopLaws
 pub mod MeetLaws
 pub mod NeedLaws
 pub mod RunLaws
+pub mod ResultLaws
 pub mod SlotLaws
 pub mod TxnLaws
 pub mod WriteLaws

@@ -1,6 +1,6 @@
 -- What steps of the interpreter keep, whatever the rows answer: of each accepted transaction that is run on rows of its application, what holds where a
 -- run stands holds again after the step.
-use Rattle.std.specs.Prelude.{◌≡◌, ℕ, List, [], ◌∷◌, Option, Some, None}
+use Rattle.std.specs.Prelude.{◌≡◌, ℕ, List, [], ◌∷◌, Option, None}
 use Rattle.std.specs.FinMap.{get, empty}
 use Rattle.sv_value.specs.declared.values.Val.{Val}
 use Rattle.sv_app.specs.declared.apps.Ident.{Ident}

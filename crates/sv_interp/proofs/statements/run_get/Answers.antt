@@ -1,5 +1,4 @@
-use Rattle.std.proofs.Common.{◌≡◌, ◌∙◌, List, refl, ap, rules}
-use Rattle.sv_value.specs.declared.values.Val.{Val}
+use Rattle.std.proofs.Common.{◌≡◌, ◌∙◌, refl, ap, rules}
 use Rattle.sv_app.specs.declared.places.Place.{Place}
 use Rattle.sv_app.specs.Trees.{terms_of}
 use Rattle.sv_effect.specs.Run.{place_of_row}
