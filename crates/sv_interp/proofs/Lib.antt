@@ -1,3 +1,4 @@
+pub mod KeepLaws
 pub mod KeyLaws
 pub mod LaidLaws
 pub mod LookLaws
@@ -5,6 +6,7 @@ pub mod LoopLaws
 pub mod MeetLaws
 pub mod NeedLaws
 pub mod RunLaws
+pub mod ResultLaws
 pub mod SlotLaws
 pub mod TxnLaws
 pub mod WriteLaws

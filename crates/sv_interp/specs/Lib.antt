@@ -1,2 +1,4 @@
+pub mod Keeping
 pub mod Keys
 pub mod Machine
+pub mod Results

@@ -1,5 +1,5 @@
 ghost use Rattle.std.specs.Prelude.{◌≡◌, IfOk, OnErr, Err, false, List, Option};
-ghost use Rattle.std.specs.FinMap.{get};
+ghost use Rattle.std.specs.FinMap.{get, empty};
 ghost use Rattle.sv_app.specs.declared.places.Place.{Place as PlaceValue};
 ghost use Rattle.sv_app.specs.Schema.{Declaration};
 ghost use Rattle.sv_app.specs.Tables.{Tables};
@@ -8,7 +8,9 @@ ghost use Rattle.sv_effect.specs.declared.reads.Halt.TheVariants as halt;
 ghost use Rattle.sv_effect.specs.Follows.{Follows};
 ghost use Rattle.sv_effect.specs.Reads.{seen_of};
 ghost use Rattle.sv_effect.specs.TablesOfCut.{is_place};
+ghost use Rattle.sv_interp.specs.Keeping.{AreFit};
 ghost use Rattle.sv_interp.specs.Machine.{over, own_row, own_rows, hides, lent, told_row};
+ghost use Rattle.sv_trace.specs.Standing.{RowAt};
 
 use crate::states::OwnRow;
 use std::alloc::Global;
@@ -77,6 +79,7 @@ pub fn look<R: Rows>(
     place: &Place,
 ) -> Result<Option<OwnRow>, Halt>
     ensures followed { IfOk result (λ row. Follows (R.tables rows.old) (R.tables rows.new) (R.noted rows.old) (R.noted rows.new) (λ t. get (over own.now t) place.now ≡ own_rows row)) }
+    ensures fits { IfOk result (λ row. (schema : List Declaration) → R.is_of rows.old schema → AreFit schema (over own.now empty) → RowAt schema place.now (own_rows row)) }
     ensures same_app { (schema : List Declaration) → R.is_of rows.old schema → R.is_of rows.new schema }
     ensures same_tables { R.tables rows.new ≡ R.tables rows.old }
     ensures same_knows { R.knows rows.new ≡ R.knows rows.old }

@@ -1,4 +1,4 @@
-ghost use Rattle.std.specs.Prelude.{◌≡◌, ◌≤◌, length, IfOk, Err, false, List};
+ghost use Rattle.std.specs.Prelude.{◌≡◌, ◌≤◌, ◌∷◌, [], length, IfOk, Err, false, List};
 ghost use Rattle.std.specs.Option.{option_map};
 ghost use Rattle.sv_app.specs.Schema.{Declaration};
 ghost use Rattle.sv_app.specs.Tables.{Tables};
@@ -7,6 +7,7 @@ ghost use Rattle.sv_app.specs.Units.{unit_of};
 ghost use Rattle.sv_effect.specs.declared.reads.Ask.{Ask as AskValue};
 ghost use Rattle.sv_effect.specs.declared.reads.Halt.TheVariants as halt;
 ghost use Rattle.sv_effect.specs.Run.{run_command, run_block, turns, row_turn, item_turn};
+ghost use Rattle.sv_interp.specs.Keeping.{Statements, Statement, Turn, RowTurns, ItemTurns, RowLoop, ItemLoop, Keeps};
 ghost use Rattle.sv_interp.specs.Machine.{progress_of, stand, flow_of, setting_of, Runs, Reaches, closing, looping};
 
 use crate::keys::met_keys;
@@ -26,7 +27,7 @@ use sv_value::{Key, Val};
 
 /// Runs statements in order.
 #[cycle(run)]
-#[tactic(auto, using(crate::proofs::RunLaws::blocks))]
+#[tactic(auto, using(crate::proofs::RunLaws::blocks, crate::proofs::KeepLaws::blocks))]
 pub fn run_all<R: Rows>(
     alloc: Global,
     setting: &Setting<'_>,
@@ -35,6 +36,7 @@ pub fn run_all<R: Rows>(
     rows: &mut R,
 ) -> Result<Option<Outcome>, Halt>
     ensures ran { IfOk result (λ end. Runs (run_block (setting_of setting.now) (block_of stmts.now)) (R.tables rows.old) (R.tables rows.new) (R.noted rows.old) (R.noted rows.new) state.old end state.new) }
+    ensures kept { IfOk result (λ end. Keeps (R.is_of rows.old) (setting_of setting.now) (Statements (block_of stmts.now)) state.old end state.new) }
     ensures same_app { (schema : List Declaration) → R.is_of rows.old schema → R.is_of rows.new schema }
     ensures same_tables { R.tables rows.new ≡ R.tables rows.old }
     ensures same_knows { R.knows rows.new ≡ R.knows rows.old }
@@ -53,7 +55,7 @@ pub fn run_all<R: Rows>(
 }
 
 #[cycle(run)]
-#[tactic(auto, using(crate::proofs::RunLaws::commands))]
+#[tactic(auto, using(crate::proofs::RunLaws::commands, crate::proofs::KeepLaws::commands))]
 fn run_one<R: Rows>(
     alloc: Global,
     setting: &Setting<'_>,
@@ -62,6 +64,7 @@ fn run_one<R: Rows>(
     rows: &mut R,
 ) -> Result<Option<Outcome>, Halt>
     ensures ran { IfOk result (λ end. Runs (run_command (setting_of setting.now) (command_of stmt.now)) (R.tables rows.old) (R.tables rows.new) (R.noted rows.old) (R.noted rows.new) state.old end state.new) }
+    ensures kept { IfOk result (λ end. Keeps (R.is_of rows.old) (setting_of setting.now) (Statement (command_of stmt.now)) state.old end state.new) }
     ensures same_app { (schema : List Declaration) → R.is_of rows.old schema → R.is_of rows.new schema }
     ensures same_tables { R.tables rows.new ≡ R.tables rows.old }
     ensures same_knows { R.knows rows.new ≡ R.knows rows.old }
@@ -121,7 +124,7 @@ fn run_one<R: Rows>(
 }
 
 #[cycle(run)]
-#[tactic(auto, using(crate::proofs::RunLaws::steps))]
+#[tactic(auto, using(crate::proofs::RunLaws::steps, crate::proofs::KeepLaws::choices))]
 fn run_if<R: Rows>(
     alloc: Global,
     setting: &Setting<'_>,
@@ -132,6 +135,7 @@ fn run_if<R: Rows>(
     rows: &mut R,
 ) -> Result<Option<Outcome>, Halt>
     ensures ran { IfOk result (λ end. Runs (run_command (setting_of setting.now) (Choose (test_of cond.now) (block_of yes.now) (block_of no.now))) (R.tables rows.old) (R.tables rows.new) (R.noted rows.old) (R.noted rows.new) state.old end state.new) }
+    ensures kept { IfOk result (λ end. Keeps (R.is_of rows.old) (setting_of setting.now) (Statement (Choose (test_of cond.now) (block_of yes.now) (block_of no.now))) state.old end state.new) }
     ensures same_app { (schema : List Declaration) → R.is_of rows.old schema → R.is_of rows.new schema }
     ensures same_tables { R.tables rows.new ≡ R.tables rows.old }
     ensures same_knows { R.knows rows.new ≡ R.knows rows.old }
@@ -151,7 +155,7 @@ fn run_if<R: Rows>(
 
 /// The block of a turn, and the end of its instance.
 #[cycle(run)]
-#[tactic(auto, using(crate::proofs::RunLaws::closings))]
+#[tactic(auto, using(crate::proofs::RunLaws::closings, crate::proofs::KeepLaws::closings))]
 fn run_turn<R: Rows>(
     alloc: Global,
     setting: &Setting<'_>,
@@ -161,6 +165,7 @@ fn run_turn<R: Rows>(
     rows: &mut R,
 ) -> Result<Option<Outcome>, Halt>
     ensures ran { IfOk result (λ end. Runs (closing (progress_of outer) (run_block (setting_of setting.now) (block_of body.now))) (R.tables rows.old) (R.tables rows.new) (R.noted rows.old) (R.noted rows.new) state.old end state.new) }
+    ensures kept { IfOk result (λ end. Keeps (R.is_of rows.old) (setting_of setting.now) (Turn (block_of body.now) (progress_of outer)) state.old end state.new) }
     ensures same_app { (schema : List Declaration) → R.is_of rows.old schema → R.is_of rows.new schema }
     ensures same_tables { R.tables rows.new ≡ R.tables rows.old }
     ensures same_knows { R.knows rows.new ≡ R.knows rows.old }
@@ -176,7 +181,7 @@ fn run_turn<R: Rows>(
 }
 
 #[cycle(run)]
-#[tactic(auto, using(crate::proofs::RunLaws::steps))]
+#[tactic(auto, using(crate::proofs::RunLaws::steps, crate::proofs::KeepLaws::items))]
 fn run_item<R: Rows>(
     alloc: Global,
     setting: &Setting<'_>,
@@ -188,6 +193,7 @@ fn run_item<R: Rows>(
     rows: &mut R,
 ) -> Result<Option<Outcome>, Halt>
     ensures ran { IfOk result (λ end. Runs (item_turn unit var (run_block (setting_of setting.now) (block_of body.now)) val.now) (R.tables rows.old) (R.tables rows.new) (R.noted rows.old) (R.noted rows.new) state.old end state.new) }
+    ensures kept { IfOk result (λ end. Keeps (R.is_of rows.old) (setting_of setting.now) (ItemTurns unit var (val.now ∷ []) (block_of body.now)) state.old end state.new) }
     ensures same_app { (schema : List Declaration) → R.is_of rows.old schema → R.is_of rows.new schema }
     ensures same_tables { R.tables rows.new ≡ R.tables rows.old }
     ensures same_knows { R.knows rows.new ≡ R.knows rows.old }
@@ -200,7 +206,7 @@ fn run_item<R: Rows>(
 }
 
 #[cycle(run)]
-#[tactic(auto, using(crate::proofs::RunLaws::rows))]
+#[tactic(auto, using(crate::proofs::RunLaws::rows, crate::proofs::KeepLaws::rows))]
 fn run_row<R: Rows>(
     alloc: Global,
     setting: &Setting<'_>,
@@ -213,6 +219,7 @@ fn run_row<R: Rows>(
     rows: &mut R,
 ) -> Result<Option<Outcome>, Halt>
     ensures ran { IfOk result (λ end. Runs (row_turn unit row table (run_block (setting_of setting.now) (block_of body.now)) key.now) (R.tables rows.old) (R.tables rows.new) (R.noted rows.old) (R.noted rows.new) state.old end state.new) }
+    ensures kept { IfOk result (λ end. Keeps (R.is_of rows.old) (setting_of setting.now) (RowTurns unit row table (block_of body.now)) state.old end state.new) }
     ensures same_app { (schema : List Declaration) → R.is_of rows.old schema → R.is_of rows.new schema }
     ensures same_tables { R.tables rows.new ≡ R.tables rows.old }
     ensures same_knows { R.knows rows.new ≡ R.knows rows.old }
@@ -234,7 +241,7 @@ fn run_row<R: Rows>(
 }
 
 #[cycle(run)]
-#[tactic(auto, using(crate::proofs::RunLaws::turning))]
+#[tactic(auto, using(crate::proofs::RunLaws::turning, crate::proofs::KeepLaws::items))]
 fn run_items<R: Rows>(
     alloc: Global,
     setting: &Setting<'_>,
@@ -246,6 +253,7 @@ fn run_items<R: Rows>(
     rows: &mut R,
 ) -> Result<Option<Outcome>, Halt>
     ensures ran { IfOk result (λ end. Runs (turns vals.now (item_turn unit var (run_block (setting_of setting.now) (block_of body.now)))) (R.tables rows.old) (R.tables rows.new) (R.noted rows.old) (R.noted rows.new) state.old end state.new) }
+    ensures kept { IfOk result (λ end. Keeps (R.is_of rows.old) (setting_of setting.now) (ItemTurns unit var vals.now (block_of body.now)) state.old end state.new) }
     ensures same_app { (schema : List Declaration) → R.is_of rows.old schema → R.is_of rows.new schema }
     ensures same_tables { R.tables rows.new ≡ R.tables rows.old }
     ensures same_knows { R.knows rows.new ≡ R.knows rows.old }
@@ -261,7 +269,7 @@ fn run_items<R: Rows>(
 }
 
 #[cycle(run)]
-#[tactic(auto, using(crate::proofs::RunLaws::turning))]
+#[tactic(auto, using(crate::proofs::RunLaws::turning, crate::proofs::KeepLaws::rows))]
 fn run_rows<R: Rows>(
     alloc: Global,
     setting: &Setting<'_>,
@@ -274,6 +282,7 @@ fn run_rows<R: Rows>(
     rows: &mut R,
 ) -> Result<Option<Outcome>, Halt>
     ensures ran { IfOk result (λ end. Runs (turns keys.now (row_turn unit row table (run_block (setting_of setting.now) (block_of body.now)))) (R.tables rows.old) (R.tables rows.new) (R.noted rows.old) (R.noted rows.new) state.old end state.new) }
+    ensures kept { IfOk result (λ end. Keeps (R.is_of rows.old) (setting_of setting.now) (RowTurns unit row table (block_of body.now)) state.old end state.new) }
     ensures same_app { (schema : List Declaration) → R.is_of rows.old schema → R.is_of rows.new schema }
     ensures same_tables { R.tables rows.new ≡ R.tables rows.old }
     ensures same_knows { R.knows rows.new ≡ R.knows rows.old }
@@ -289,7 +298,7 @@ fn run_rows<R: Rows>(
 }
 
 #[cycle(run)]
-#[tactic(auto, using(crate::proofs::RunLaws::loops))]
+#[tactic(auto, using(crate::proofs::RunLaws::loops, crate::proofs::KeepLaws::loops))]
 fn loop_items<R: Rows>(
     alloc: Global,
     setting: &Setting<'_>,
@@ -301,6 +310,7 @@ fn loop_items<R: Rows>(
     rows: &mut R,
 ) -> Result<Option<Outcome>, Halt>
     ensures ran { IfOk result (λ end. Runs (looping vals.now (item_turn unit var (run_block (setting_of setting.now) (block_of body.now))) (block_of body.now)) (R.tables rows.old) (R.tables rows.new) (R.noted rows.old) (R.noted rows.new) state.old end state.new) }
+    ensures kept { IfOk result (λ end. Keeps (R.is_of rows.old) (setting_of setting.now) (ItemLoop unit var vals.now (block_of body.now)) state.old end state.new) }
     ensures same_app { (schema : List Declaration) → R.is_of rows.old schema → R.is_of rows.new schema }
     ensures same_tables { R.tables rows.new ≡ R.tables rows.old }
     ensures same_knows { R.knows rows.new ≡ R.knows rows.old }
@@ -316,7 +326,7 @@ fn loop_items<R: Rows>(
 }
 
 #[cycle(run)]
-#[tactic(auto, using(crate::proofs::RunLaws::loops))]
+#[tactic(auto, using(crate::proofs::RunLaws::loops, crate::proofs::KeepLaws::loops))]
 fn loop_rows<R: Rows>(
     alloc: Global,
     setting: &Setting<'_>,
@@ -329,6 +339,7 @@ fn loop_rows<R: Rows>(
     rows: &mut R,
 ) -> Result<Option<Outcome>, Halt>
     ensures ran { IfOk result (λ end. Runs (looping keys.now (row_turn unit row table (run_block (setting_of setting.now) (block_of body.now))) (block_of body.now)) (R.tables rows.old) (R.tables rows.new) (R.noted rows.old) (R.noted rows.new) state.old end state.new) }
+    ensures kept { IfOk result (λ end. Keeps (R.is_of rows.old) (setting_of setting.now) (RowLoop unit row table (block_of body.now)) state.old end state.new) }
     ensures same_app { (schema : List Declaration) → R.is_of rows.old schema → R.is_of rows.new schema }
     ensures same_tables { R.tables rows.new ≡ R.tables rows.old }
     ensures same_knows { R.knows rows.new ≡ R.knows rows.old }
@@ -344,7 +355,7 @@ fn loop_rows<R: Rows>(
 }
 
 #[cycle(run)]
-#[tactic(auto, using(crate::proofs::RunLaws::steps))]
+#[tactic(auto, using(crate::proofs::RunLaws::steps, crate::proofs::KeepLaws::loops))]
 fn run_each<R: Rows>(
     alloc: Global,
     setting: &Setting<'_>,
@@ -355,6 +366,7 @@ fn run_each<R: Rows>(
     rows: &mut R,
 ) -> Result<Option<Outcome>, Halt>
     ensures ran { IfOk result (λ end. Runs (run_command (setting_of setting.now) (ForEach var list (block_of body.now))) (R.tables rows.old) (R.tables rows.new) (R.noted rows.old) (R.noted rows.new) state.old end state.new) }
+    ensures kept { IfOk result (λ end. Keeps (R.is_of rows.old) (setting_of setting.now) (Statement (ForEach var list (block_of body.now))) state.old end state.new) }
     ensures same_app { (schema : List Declaration) → R.is_of rows.old schema → R.is_of rows.new schema }
     ensures same_tables { R.tables rows.new ≡ R.tables rows.old }
     ensures same_knows { R.knows rows.new ≡ R.knows rows.old }
@@ -377,7 +389,7 @@ fn run_each<R: Rows>(
 }
 
 #[cycle(run)]
-#[tactic(auto, using(crate::proofs::RunLaws::fors))]
+#[tactic(auto, using(crate::proofs::RunLaws::fors, crate::proofs::KeepLaws::loops))]
 fn run_for<R: Rows>(
     alloc: Global,
     setting: &Setting<'_>,
@@ -389,6 +401,7 @@ fn run_for<R: Rows>(
     rows: &mut R,
 ) -> Result<Option<Outcome>, Halt>
     ensures ran { IfOk result (λ end. Runs (run_command (setting_of setting.now) (ForRows row table (option_map test_of cond.now) (block_of body.now))) (R.tables rows.old) (R.tables rows.new) (R.noted rows.old) (R.noted rows.new) state.old end state.new) }
+    ensures kept { IfOk result (λ end. Keeps (R.is_of rows.old) (setting_of setting.now) (Statement (ForRows row table (option_map test_of cond.now) (block_of body.now))) state.old end state.new) }
     ensures same_app { (schema : List Declaration) → R.is_of rows.old schema → R.is_of rows.new schema }
     ensures same_tables { R.tables rows.new ≡ R.tables rows.old }
     ensures same_knows { R.knows rows.new ≡ R.knows rows.old }

@@ -8,6 +8,7 @@ ghost use Rattle.sv_app.specs.Units.{unit_of};
 ghost use Rattle.sv_effect.specs.declared.reads.Ask.{Ask as AskValue};
 ghost use Rattle.sv_effect.specs.declared.reads.Halt.TheVariants as halt;
 ghost use Rattle.sv_effect.specs.Run.{items_of, run_command, on_present, inserted, updated, Setting as RunSetting};
+ghost use Rattle.sv_interp.specs.Keeping.{Statement, Keeps, LooksUp};
 ghost use Rattle.sv_interp.specs.Machine.{declared, stand, flow_of, setting_of, Runs};
 
 use crate::changes::{insert_row, remove_row, update_row};
@@ -43,7 +44,7 @@ pub fn run_reply(expr: &Expr, state: &mut State) -> Result<Option<Outcome>, NoMe
 }
 
 /// Binds a row variable to a row, which has to be present.
-#[tactic(auto, using(crate::proofs::RunLaws::steps))]
+#[tactic(auto, using(crate::proofs::RunLaws::steps, crate::proofs::KeepLaws::steps))]
 pub fn run_get<R: Rows>(
     alloc: Global,
     setting: &Setting<'_>,
@@ -54,6 +55,7 @@ pub fn run_get<R: Rows>(
     rows: &mut R,
 ) -> Result<Option<Outcome>, Halt>
     ensures ran { IfOk result (λ end. Runs (run_command (setting_of setting.now) (Fetch row table (terms_of key.now))) (R.tables rows.old) (R.tables rows.new) (R.noted rows.old) (R.noted rows.new) state.old end state.new) }
+    ensures kept { IfOk result (λ end. Keeps (R.is_of rows.old) (setting_of setting.now) (Statement (Fetch row table (terms_of key.now))) state.old end state.new) }
     ensures same_app { (schema : Items Declaration) → R.is_of rows.old schema → R.is_of rows.new schema }
     ensures same_tables { R.tables rows.new ≡ R.tables rows.old }
     ensures same_knows { R.knows rows.new ≡ R.knows rows.old }
@@ -85,7 +87,7 @@ fn table_at<'a>(setting: &Setting<'a>, number: u16) -> Option<&'a Table>
     setting.tables.get(number as usize)
 }
 
-#[tactic(auto, using(crate::proofs::RunLaws::steps))]
+#[tactic(auto, using(crate::proofs::RunLaws::steps, crate::proofs::KeepLaws::steps))]
 fn insert_at<R: Rows>(
     alloc: Global,
     table: &Table,
@@ -95,6 +97,7 @@ fn insert_at<R: Rows>(
     rows: &mut R,
 ) -> Result<Option<Outcome>, Halt>
     ensures ran { IfOk result (λ end. Runs (λ st. inserted (declaration_of table.now) place.now vals.now (get st.tables place.now) st) (R.tables rows.old) (R.tables rows.new) (R.noted rows.old) (R.noted rows.new) state.old end state.new) }
+    ensures kept { IfOk result (λ end. LooksUp (R.is_of rows.old) place.now (λ row st. inserted (declaration_of table.now) place.now vals.now row st) state.old end state.new) }
     ensures same_app { (schema : Items Declaration) → R.is_of rows.old schema → R.is_of rows.new schema }
     ensures same_tables { R.tables rows.new ≡ R.tables rows.old }
     ensures same_knows { R.knows rows.new ≡ R.knows rows.old }
@@ -106,7 +109,7 @@ fn insert_at<R: Rows>(
 }
 
 /// Inserts a row, where none is present.
-#[tactic(auto, using(crate::proofs::RunLaws::steps))]
+#[tactic(auto, using(crate::proofs::RunLaws::steps, crate::proofs::KeepLaws::steps))]
 pub fn run_insert<R: Rows>(
     alloc: Global,
     setting: &Setting<'_>,
@@ -116,6 +119,7 @@ pub fn run_insert<R: Rows>(
     rows: &mut R,
 ) -> Result<Option<Outcome>, Halt>
     ensures ran { IfOk result (λ end. Runs (run_command (setting_of setting.now) (Insert table (terms_of exprs.now))) (R.tables rows.old) (R.tables rows.new) (R.noted rows.old) (R.noted rows.new) state.old end state.new) }
+    ensures kept { IfOk result (λ end. Keeps (R.is_of rows.old) (setting_of setting.now) (Statement (Insert table (terms_of exprs.now))) state.old end state.new) }
     ensures same_app { (schema : Items Declaration) → R.is_of rows.old schema → R.is_of rows.new schema }
     ensures same_tables { R.tables rows.new ≡ R.tables rows.old }
     ensures same_knows { R.knows rows.new ≡ R.knows rows.old }
@@ -135,7 +139,7 @@ pub fn run_insert<R: Rows>(
     Ok(end)
 }
 
-#[tactic(auto, using(crate::proofs::RunLaws::steps))]
+#[tactic(auto, using(crate::proofs::RunLaws::steps, crate::proofs::KeepLaws::steps))]
 fn update_at<R: Rows>(
     alloc: Global,
     table: &Table,
@@ -145,6 +149,7 @@ fn update_at<R: Rows>(
     rows: &mut R,
 ) -> Result<Option<Outcome>, Halt>
     ensures ran { IfOk result (λ end. Runs (λ st. on_present (get st.tables place.now) (updated (declaration_of table.now) place.now (sets_of sets.now) st)) (R.tables rows.old) (R.tables rows.new) (R.noted rows.old) (R.noted rows.new) state.old end state.new) }
+    ensures kept { IfOk result (λ end. LooksUp (R.is_of rows.old) place.now (λ row st. on_present row (updated (declaration_of table.now) place.now (sets_of sets.now) st)) state.old end state.new) }
     ensures same_app { (schema : Items Declaration) → R.is_of rows.old schema → R.is_of rows.new schema }
     ensures same_tables { R.tables rows.new ≡ R.tables rows.old }
     ensures same_knows { R.knows rows.new ≡ R.knows rows.old }
@@ -163,7 +168,7 @@ fn update_at<R: Rows>(
 }
 
 /// Updates a row, which has to be present.
-#[tactic(auto, using(crate::proofs::RunLaws::steps))]
+#[tactic(auto, using(crate::proofs::RunLaws::steps, crate::proofs::KeepLaws::steps))]
 pub fn run_update<R: Rows>(
     alloc: Global,
     setting: &Setting<'_>,
@@ -174,6 +179,7 @@ pub fn run_update<R: Rows>(
     rows: &mut R,
 ) -> Result<Option<Outcome>, Halt>
     ensures ran { IfOk result (λ end. Runs (run_command (setting_of setting.now) (Update table (terms_of key.now) (sets_of sets.now))) (R.tables rows.old) (R.tables rows.new) (R.noted rows.old) (R.noted rows.new) state.old end state.new) }
+    ensures kept { IfOk result (λ end. Keeps (R.is_of rows.old) (setting_of setting.now) (Statement (Update table (terms_of key.now) (sets_of sets.now))) state.old end state.new) }
     ensures same_app { (schema : Items Declaration) → R.is_of rows.old schema → R.is_of rows.new schema }
     ensures same_tables { R.tables rows.new ≡ R.tables rows.old }
     ensures same_knows { R.knows rows.new ≡ R.knows rows.old }
@@ -194,7 +200,7 @@ pub fn run_update<R: Rows>(
 }
 
 /// Removes a row, which has to be present.
-#[tactic(auto, using(crate::proofs::RunLaws::steps))]
+#[tactic(auto, using(crate::proofs::RunLaws::steps, crate::proofs::KeepLaws::steps))]
 pub fn run_remove<R: Rows>(
     alloc: Global,
     setting: &Setting<'_>,
@@ -204,6 +210,7 @@ pub fn run_remove<R: Rows>(
     rows: &mut R,
 ) -> Result<Option<Outcome>, Halt>
     ensures ran { IfOk result (λ end. Runs (run_command (setting_of setting.now) (Remove table (terms_of key.now))) (R.tables rows.old) (R.tables rows.new) (R.noted rows.old) (R.noted rows.new) state.old end state.new) }
+    ensures kept { IfOk result (λ end. Keeps (R.is_of rows.old) (setting_of setting.now) (Statement (Remove table (terms_of key.now))) state.old end state.new) }
     ensures same_app { (schema : Items Declaration) → R.is_of rows.old schema → R.is_of rows.new schema }
     ensures same_tables { R.tables rows.new ≡ R.tables rows.old }
     ensures same_knows { R.knows rows.new ≡ R.knows rows.old }

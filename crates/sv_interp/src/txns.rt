@@ -1,12 +1,17 @@
 ghost use Rattle.std.specs.Prelude.{◌≡◌, ◌<◌, ◌≤◌, ◌^◌, length, IfOk, Err, false, List as Items, map, slice_get};
+ghost use Rattle.std.specs.List.{All};
 ghost use Rattle.sv_app.specs.Schema.{Declaration, schema_of};
 ghost use Rattle.sv_app.specs.Tables.{Tables};
-ghost use Rattle.sv_app.specs.Trees.{block_of, transactions_of};
+ghost use Rattle.sv_app.specs.Shaped.{Shaped};
+ghost use Rattle.sv_app.specs.Trees.{Transaction, block_of, transactions_of};
 ghost use Rattle.sv_effect.specs.declared.reads.Ask.{Ask as AskValue};
 ghost use Rattle.sv_effect.specs.declared.reads.Halt.TheVariants as halt;
+ghost use Rattle.sv_effect.specs.Fits.{AllFit};
 ghost use Rattle.sv_effect.specs.Follows.{Follows};
 ghost use Rattle.sv_effect.specs.Run.{Goes, Ends, argument, body_of, started, result_of, run_body, run, ran_of};
 ghost use Rattle.sv_interp.specs.Machine.{stand};
+ghost use Rattle.sv_interp.specs.Results.{IsRunnable, IsBodyOf, RunFits};
+ghost use Rattle.sv_trace.specs.Standing.{Frame};
 
 use crate::loops::put_loops;
 use crate::needs::needs;
@@ -61,7 +66,6 @@ fn start(alloc: Global, args: &[Arg]) -> Result<State, NoMemory>
 /// What a run comes to that wasn't ended before.
 fn finish(alloc: Global, tables: &[Table], state: State) -> Result<Ran, NoMemory>
     ensures result { IfOk result (λ ran. (t : Tables) → result_of (schema_of tables.now) (Goes (stand t state)) ≡ ran_of ran) }
-    ensures few { IfOk result (λ ran. length ran.effects ≤ 64) }
     ensures instances { IfOk result (λ ran. length ran.trace < 2 ^ 32) }
 {
     let State {
@@ -71,7 +75,7 @@ fn finish(alloc: Global, tables: &[Table], state: State) -> Result<Ran, NoMemory
         instances,
         ..
     } = state;
-    if effects.len() > 64 || instances.len() >= 4_294_967_295 {
+    if instances.len() >= 4_294_967_295 {
         return Err(NoMemory);
     }
     let needs = needs(alloc, tables, effects.items())?;
@@ -87,7 +91,6 @@ fn finish(alloc: Global, tables: &[Table], state: State) -> Result<Ran, NoMemory
 /// What a run comes to that was ended.
 fn ended(alloc: Global, outcome: Outcome) -> Ran
     ensures result { (schema : Items Declaration) → result_of schema (Ends outcome) ≡ ran_of result }
-    ensures few { length result.effects ≤ 64 }
     ensures instances { length result.trace < 2 ^ 32 }
 {
     Ran {
@@ -111,7 +114,7 @@ fn run_body<R: Rows>(
     ensures same_tables { R.tables rows.new ≡ R.tables rows.old }
     ensures same_knows { R.knows rows.new ≡ R.knows rows.old }
     ensures missing { (a : AskValue) → result ≡ Err (halt.Missing a) → R.knows rows.old a ≡ false }
-    ensures few { IfOk result (λ ran. length ran.effects ≤ 64) }
+    ensures fits { IfOk result (λ ran. (f : Frame) → IsBodyOf f (schema_of tables.now) (block_of body.now) args.now → R.is_of rows.old f.schema → RunFits f.schema f.txn ran) }
     ensures instances { IfOk result (λ ran. length ran.trace < 2 ^ 32) }
 {
     let mut loops = Vec::new(alloc);
@@ -146,7 +149,9 @@ fn body_of(app: &App, number: u16) -> &[Stmt]
 
 /// Runs the transaction of a request on rows that it asks for. What it comes to is what the run comes to on whole
 /// tables, on all tables that agree with what the rows answered; and it halts for a missing answer only where the rows
-/// don't know it. There are at most 64 changes, and fewer than 2^32 instances.
+/// don't know it. Whatever the rows answered, where they are of the application, this was accepted and the arguments
+/// fit, each instance of the trace is shaped, and there are at most 64 changes, each of which fits the schema. There
+/// are fewer than 2^32 instances.
 pub fn run_txn<R: Rows>(
     alloc: Global,
     app: &App,
@@ -159,7 +164,10 @@ pub fn run_txn<R: Rows>(
     ensures same_tables { R.tables rows.new ≡ R.tables rows.old }
     ensures same_knows { R.knows rows.new ≡ R.knows rows.old }
     ensures missing { (a : AskValue) → result ≡ Err (halt.Missing a) → R.knows rows.old a ≡ false }
-    ensures few { IfOk result (λ ran. length ran.effects ≤ 64) }
+    ensures shaped { IfOk result (λ ran. (txn : Transaction) → IsRunnable (schema_of app.now.tables.items) (transactions_of app.now.txns.items) request.now txn
+        → R.is_of rows.old (schema_of app.now.tables.items) → All (Shaped (schema_of app.now.tables.items) txn) ran.trace) }
+    ensures fits { IfOk result (λ ran. (txn : Transaction) → IsRunnable (schema_of app.now.tables.items) (transactions_of app.now.txns.items) request.now txn
+        → R.is_of rows.old (schema_of app.now.tables.items) → AllFit (schema_of app.now.tables.items) ran.effects × (length ran.effects ≤ 64)) }
     ensures instances { IfOk result (λ ran. length ran.trace < 2 ^ 32) }
 {
     let body = body_of(app, request.txn);

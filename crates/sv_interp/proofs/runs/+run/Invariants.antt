@@ -1,8 +1,9 @@
-use Rattle.std.proofs.Common.{◌≡◌, ◌*◌, ◌+◌, drop, List}
+use Rattle.std.proofs.Common.{◌≡◌, ◌*◌, ◌+◌, drop, List, None}
 use Rattle.sv_app.specs.Schema.{Declaration}
 use Rattle.sv_app.specs.Trees.{command_of, block_of}
 use Rattle.sv_app.specs.Weights.{command_weight, block_weight}
 use Rattle.sv_effect.specs.Run.{run_block, row_turn, item_turn}
+use Rattle.sv_interp.specs.Keeping.{ItemTurns, RowTurns, Keeps}
 use Rattle.sv_interp.specs.Machine.{setting_of, Reaches}
 use Rattle.sv_interp.proofs.runs.+run.Given as goal
 
@@ -45,6 +46,7 @@ decreases-run_for g l = block_weight (block_of l.body.now) * 8 + 5
 abbrev pub invariant-run_items-loop-val : goal.invariant-run_items-loop-val
 invariant-run_items-loop-val g l = record {
   ran : Reaches l.vals (drop l.val-index l.vals) (item_turn l.unit l.var (run_block (setting_of l.setting) (block_of l.body))) (g.R.Rows.tables l.fn.rows) (g.R.Rows.tables l.rows) (g.R.Rows.noted l.fn.rows) (g.R.Rows.noted l.rows) l.fn.state l.state;
+  kept : Keeps (g.R.Rows.is_of l.fn.rows) (setting_of l.setting) (ItemTurns l.unit l.var l.vals (block_of l.body)) l.fn.state None l.state;
   same_app : (schema : List Declaration) → g.R.Rows.is_of l.fn.rows schema → g.R.Rows.is_of l.rows schema;
   same_tables : g.R.Rows.tables l.rows ≡ g.R.Rows.tables l.fn.rows;
   same_knows : g.R.Rows.knows l.rows ≡ g.R.Rows.knows l.fn.rows;
@@ -53,6 +55,7 @@ invariant-run_items-loop-val g l = record {
 abbrev pub invariant-run_rows-loop-key : goal.invariant-run_rows-loop-key
 invariant-run_rows-loop-key g l = record {
   ran : Reaches l.keys (drop l.key-index l.keys) (row_turn l.unit l.row l.table (run_block (setting_of l.setting) (block_of l.body))) (g.R.Rows.tables l.fn.rows) (g.R.Rows.tables l.rows) (g.R.Rows.noted l.fn.rows) (g.R.Rows.noted l.rows) l.fn.state l.state;
+  kept : Keeps (g.R.Rows.is_of l.fn.rows) (setting_of l.setting) (RowTurns l.unit l.row l.table (block_of l.body)) l.fn.state None l.state;
   same_app : (schema : List Declaration) → g.R.Rows.is_of l.fn.rows schema → g.R.Rows.is_of l.rows schema;
   same_tables : g.R.Rows.tables l.rows ≡ g.R.Rows.tables l.fn.rows;
   same_knows : g.R.Rows.knows l.rows ≡ g.R.Rows.knows l.fn.rows;

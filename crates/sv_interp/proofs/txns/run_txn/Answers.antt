@@ -1,0 +1,16 @@
+use Rattle.std.proofs.Common.{◌≡◌, ap, rules}
+use Rattle.sv_app.specs.Schema.{schema_of}
+use Rattle.sv_app.specs.Trees.{block_of, transactions_of}
+use Rattle.sv_interp.proofs.ResultLaws.{body_fits}
+use Rattle.sv_interp.proofs.txns.run_txn.Goals as goal
+
+pub returns-clause-shaped : goal.returns-clause-shaped
+returns-clause-shaped g c = λ txn run is.
+    let args : c.items.result.now ≡ c.args.request.now.args = search rules in
+    (body_fits _ (schema_of c.args.app.now.tables.items) (transactions_of c.args.app.now.txns.items) c.args.request.now txn (schema_of c.deref.result.now) (block_of c.body_of-body.result.now) c.items.result.now c.in_ok-ran.ran run (ap schema_of c.deref.ensures.value) c.body_of-body.ensures args c.in_ok-ran.ensures.fits is).shaped
+
+pub returns-clause-fits : goal.returns-clause-fits
+returns-clause-fits g c = λ txn run is.
+    let args : c.items.result.now ≡ c.args.request.now.args = search rules in
+    let fits = body_fits _ (schema_of c.args.app.now.tables.items) (transactions_of c.args.app.now.txns.items) c.args.request.now txn (schema_of c.deref.result.now) (block_of c.body_of-body.result.now) c.items.result.now c.in_ok-ran.ran run (ap schema_of c.deref.ensures.value) c.body_of-body.ensures args c.in_ok-ran.ensures.fits is in
+    (fits.changes, fits.few)
