@@ -2,9 +2,8 @@ use crate::read_schema;
 use std::alloc::Global;
 use std::process::Abort;
 use std::test::Fail;
-use sv_app::{Code, InvBody, Kind, Merge, Refusal, Stop, Table, Ty};
+use sv_app::{Code, InvBody, Kind, Merge, Stop, Table, Ty};
 use sv_lex::{lex, spot_of};
-use sv_value::Spot;
 
 /// What is read of a document, from its first token on.
 fn read(
@@ -27,12 +26,13 @@ fn refuses(
     col: u32,
     code: Code,
 ) -> Result<(), Fail> {
-    let spot = Spot { line, col };
-    assert_eq!(rt;
-        read(rt, alloc, bytes)?.err(),
-        Some(Stop::Refused(Refusal { spot, code })),
-        "in {bytes:?}"
-    );
+    let found = match read(rt, alloc, bytes)? {
+        Err(Stop::Refused(refusal)) => {
+            Some((refusal.spot.line, refusal.spot.col, refusal.code.number()))
+        }
+        _ => None,
+    };
+    assert_eq!(rt; found, Some((line, col, code.number())), "in {bytes:?}");
     Ok(())
 }
 
