@@ -18,3 +18,6 @@ mod written;
 
 pub use parts::{Parts, Step, Work};
 pub use written::{Call, Color, Given, PartHead, Row, Setting, Verb};
+
+#[cfg(test)]
+mod tests;
