@@ -14,6 +14,8 @@ mod replays;
 mod rows;
 mod sessions;
 mod settings;
+#[cfg(test)]
+mod tests;
 mod values;
 mod written;
 
