@@ -12,6 +12,8 @@ mod parts;
 mod reading;
 mod replays;
 mod rows;
+#[cfg(test)]
+mod session_tests;
 mod sessions;
 mod settings;
 #[cfg(test)]
@@ -22,6 +24,3 @@ mod written;
 pub use parts::{Parts, Step, Work};
 pub use reading::read_parts;
 pub use written::{Call, Color, Given, PartHead, Row, Setting, Verb};
-
-#[cfg(test)]
-mod session_tests;
