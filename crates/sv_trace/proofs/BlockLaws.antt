@@ -1,5 +1,5 @@
 -- Statements behind one another, and what holds with fewer names.
-use Rattle.std.proofs.Common.{◌≡◌, Bool, List, [], ◌∷◌, ◌++◌, Option, None, refl, sym, ap, subst, ◌∙◌, append_assoc, append-nil, inr}
+use Rattle.std.proofs.Common.{◌≡◌, [], ◌++◌, None, refl, sym, ap, ◌∙◌, append_assoc, append-nil, inr}
 use Rattle.sv_app.specs.declared.apps.Ident.{Ident}
 use Rattle.sv_app.specs.declared.names.Meaning.{Meaning}
 use Rattle.sv_app.specs.Paths.{Way, Path, Leads, then_lead, command_path, block_path}

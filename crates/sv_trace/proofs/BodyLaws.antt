@@ -1,50 +1,47 @@
 -- The body of an accepted transaction: its statements read what may be used, and their values are of the types of what they are put into.
-use Rattle.std.proofs.Common.{◌≡◌, ◌∙◌, ℕ, zero, suc, ◌+◌, ◌<◌, ◌≤◌, ◌==◌, ◌||◌, not, Bool, true, false, if◌then◌else◌, List, [], ◌∷◌, ◌++◌, length, map, reverse, Option, Some, None, slice_get, refl, sym, ap, subst, arith}
+use Rattle.std.proofs.Common.{◌≡◌, ◌∙◌, ℕ, suc, ◌≤◌, ◌==◌, not, Bool, true, false, List, [], ◌∷◌, ◌++◌, length, map, Option, Some, None, slice_get, refl, sym, ap, subst, arith}
 use Rattle.std.specs.List.{flat_map}
 use Rattle.std.specs.Option.{option_map, is_none}
 use Rattle.std.proofs.lemmas.List.{length-map}
-use Rattle.std.proofs.lemmas.Option.{slice_get-map}
 use Rattle.sv_effect.proofs.TestLaws.{test_same}
 use Rattle.sv_value.specs.declared.spots.Spot.{Spot}
 use Rattle.sv_app.specs.declared.acts.Act.{Act}
 use Rattle.sv_app.specs.declared.acts.Act.TheVariants as acts
 use Rattle.sv_app.specs.declared.apps.Ident.{Ident}
-use Rattle.sv_app.specs.declared.names.Declared.{Declared}
 use Rattle.sv_app.specs.declared.names.Known.{Known}
 use Rattle.sv_app.specs.declared.names.Meaning.{Meaning}
 use Rattle.sv_app.specs.declared.names.Meaning.TheVariants.{Parameter, Variable as Local, Row as RowOf, Element}
-use Rattle.sv_app.specs.declared.refusals.Code.{Code}
 use Rattle.sv_app.specs.declared.refusals.Code.TheVariants.{Unknown, Kind, Typing}
 use Rattle.sv_app.specs.declared.refusals.Refusal.{Refusal}
 use Rattle.sv_app.specs.declared.schemas.Column.{Column}
 use Rattle.sv_app.specs.declared.schemas.Ty.{Ty}
 use Rattle.sv_app.specs.declared.schemas.Ty.TheVariants as types
-use Rattle.sv_app.specs.Accepted.{AcceptedApp, AcceptedSchema}
+use Rattle.sv_app.specs.Accepted.{AcceptedSchema}
 use Rattle.sv_app.specs.Kinds.{allows}
 use Rattle.sv_app.specs.Lookups.{is_key, column_of, table_of, table_names, column_names}
 use Rattle.sv_app.specs.Numbers.{numbered_in, columns_meant}
-use Rattle.sv_app.specs.Paths.{Names, with_type, with_table, columns_at, type_in, type_of, column_type, command_names, block_names, parameter_types}
+use Rattle.sv_app.specs.Paths.{Names, with_type, with_table, columns_at, type_in, type_of, column_type, command_names, block_names}
 use Rattle.sv_app.specs.Schema.{Declaration}
 use Rattle.sv_app.specs.Scopes.{Scope, meaning_of, knowing, parameter, opening}
 use Rattle.sv_app.specs.Scopes as scopes
 use Rattle.sv_app.specs.Slots.{item}
 use Rattle.sv_app.specs.TermTypes as terms
 use Rattle.sv_app.specs.TermTypes.{spot_of, are_apart}
-use Rattle.sv_app.specs.Trees.{Term, Test, Command, Declare, Assign, Fetch, Choose, ForRows, ForEach, Insert, Update, Remove, Abort, Reply, Block, Finish, Then, Transaction}
+use Rattle.sv_app.specs.Trees.{Term, Command, Declare, Assign, Fetch, Choose, ForRows, ForEach, Insert, Update, Remove, Abort, Reply, Block, Finish, Then}
 use Rattle.sv_app.specs.TxnNames.{plain_name, row_name, declares}
 use Rattle.sv_app.specs.TxnNames as txn_names
 use Rattle.sv_app.specs.TxnNumbers.{numbered_name, numbered_term, numbered_terms, numbered_test, numbered_set, numbered_table_name, numbered_command, numbered_block, numbered_parameter, numbered_txn}
 use Rattle.sv_app.specs.TxnNumbers as numbers
-use Rattle.sv_app.specs.TxnTyping.{at_table, no_table, kind_faults, count_faults, type_faults, each_type_faults, value_list_faults, set_faults, sets_faults, assignment_faults, walk_faults, type_if_right, declared_type, behind, command_faults, inner_faults, block_faults, txn_faults, term_faults, all_term_faults, test_faults, condition_faults}
+use Rattle.sv_app.specs.TxnTyping.{at_table, no_table, kind_faults, count_faults, type_faults, each_type_faults, value_list_faults, set_faults, sets_faults, assignment_faults, type_if_right, declared_type, behind, command_faults, inner_faults, block_faults, term_faults, all_term_faults, condition_faults}
 use Rattle.sv_app.specs.Typing.{fault_if, repeats, no_column, is_same_type}
 use Rattle.sv_app.specs.Units.{Loop, command_loops, block_loops, units, loop_variables, unit_of}
-use Rattle.sv_app.proofs.AcceptedLaws.{front_none, back_none, each_none, no_fault}
-use Rattle.sv_trace.specs.Standing.{Frame, IsFrame, names_in, Allows, AreOfColumns, SetsSuit, TypeIs, TableIs, IsUnit, Suits, BlockSuits, BlockIn, Reads, AllRead}
-use Rattle.sv_trace.proofs.DeclareLaws.{command_declares, block_declares, block_lists, after, after_append, not_before, HereFrom, here_split, agree_same, agree_then, agree_fewer, here_number, here_table, command_stays, block_stays}
+use Rattle.sv_app.proofs.AcceptedLaws.{front_none, back_none, no_fault}
+use Rattle.sv_trace.specs.Standing.{Frame, names_in, Allows, AreOfColumns, SetsSuit, TypeIs, TableIs, Suits, BlockSuits, AllRead}
+use Rattle.sv_trace.proofs.DeclareLaws.{command_declares, block_declares, after, after_append, not_before, HereFrom, here_split, agree_then, agree_fewer, here_number, here_table, block_stays}
 use Rattle.sv_trace.proofs.NamingLaws.{all, in_update, Agree, IsTable, MeaningIs, KnownIs, AllKnown, known_more, UpdatedIs, TermIs, term_is, terms_read, test_reads, bad_fault, found}
-use Rattle.sv_trace.proofs.SchemaLaws.{same_at, table_named, column_named, own_first, columns_once}
+use Rattle.sv_trace.proofs.SchemaLaws.{table_named, column_named, own_first, columns_once}
 use Rattle.sv_trace.proofs.SlotLaws.{item_here}
-use Rattle.sv_trace.proofs.UnitLaws.{Each, each_left, each_right, units_found}
+use Rattle.sv_trace.proofs.UnitLaws.{Each, each_left, each_right}
 use Rattle.sv_trace.proofs.UpdateLaws.{same_table}
 
 -- types that aren't apart are the same
@@ -96,8 +93,8 @@ same_length m n e = by_test (m == n) refl e
     by_test false t e = absurd cc
 
 module _ (f : Frame) (accepted : AcceptedSchema f.schema) (once : repeats (txn_names.names_of f.txn) ≡ []) where
-  abbrev pub N : Names
-  N = names_in f
+  abbrev pub last_names : Names
+  last_names = names_in f
 
   abbrev pub at : List Known → Scope
   at known = record { schema = f.schema; known = known; updated = None }
@@ -125,7 +122,7 @@ module _ (f : Frame) (accepted : AcceptedSchema f.schema) (once : repeats (txn_n
   -- the values of an insert
   values_typed : (k : ℕ) (known : List Known) (d : Declaration) (columns : List Column) (es : List Term) → AllKnown f k known → ((j : ℕ) (c : Column) → slice_get columns j ≡ Some c → column_of d c.name ≡ Some c)
       → length columns ≡ length es → each_type_faults (at known) d (map (λ (c : Column). c.name) columns) es ≡ [] → all_term_faults (at known) es ≡ [] → numbered_terms (all f) es ≡ es
-      → map (λ e. type_of f.schema N 0 e) es ≡ map (λ (c : Column). c.ty) columns
+      → map (λ e. type_of f.schema last_names 0 e) es ≡ map (λ (c : Column). c.ty) columns
   values_typed k known d [] [] is columns_at_names length_is right reads own = refl
   values_typed k known d [] (e ∷ es) is columns_at_names length_is right reads own = absurd (omega (arith, length_is))
   values_typed k known d (c ∷ columns) [] is columns_at_names length_is right reads own = absurd (omega (arith, length_is))
@@ -135,7 +132,7 @@ module _ (f : Frame) (accepted : AcceptedSchema f.schema) (once : repeats (txn_n
       let rest : numbered_terms (all f) es ≡ es = cc in
       let term = plain_term k known e is (front_none (term_faults (at known) e) (all_term_faults (at known) es) reads) one in
       let column : option_map (λ (x : Column). x.ty) (column_of d c.name) ≡ Some c.ty = ap (λ o. option_map (λ (x : Column). x.ty) o) (columns_at_names 0 c refl) in
-      let same : c.ty ≡ type_of f.schema N 0 e = not_apart (option_map (λ (x : Column). x.ty) (column_of d c.name)) (terms.type_of (at known) e) c.ty (type_of f.schema N 0 e) (spot_of e) column term.type
+      let same : c.ty ≡ type_of f.schema last_names 0 e = not_apart (option_map (λ (x : Column). x.ty) (column_of d c.name)) (terms.type_of (at known) e) c.ty (type_of f.schema last_names 0 e) (spot_of e) column term.type
       (front_none (type_faults (at known) d c.name e) (each_type_faults (at known) d names es) right) in
       let more = values_typed k known d columns es is (λ j. columns_at_names (suc j)) (omega (arith, length_is)) (back_none (type_faults (at known) d c.name e) (each_type_faults (at known) d names es) right)
       (back_none (term_faults (at known) e) (all_term_faults (at known) es) reads) rest in
@@ -167,24 +164,26 @@ module _ (f : Frame) (accepted : AcceptedSchema f.schema) (once : repeats (txn_n
       let one : set_faults inside is.table set ≡ [] = front_none (set_faults inside is.table set) (flat_map (λ s. set_faults inside is.table s) sets) right in
       let types_right = back_none (no_column is.table set.0 ++ fault_if (is_key is.table set.0) set.0.spot Typing) (type_faults inside is.table set.0 set.1) one in
       let column_right = front_none (no_column is.table set.0) (fault_if (is_key is.table set.0) set.0.spot Typing)
-      (front_none (no_column is.table set.0 ++ fault_if (is_key is.table set.0) set.0.spot Typing) (type_faults inside is.table set.0 set.1) one) in
-      (term.reads, typed (column_of is.table set.0) refl (no_fault (is_none (column_of is.table set.0)) set.0.spot Unknown column_right) (subst (λ l. numbered_in l set.0 ≡ set.0) meant column_own) term.type types_right,
-      sets_suit k known t is sets knowns (back_none (set_faults inside is.table set) (flat_map (λ s. set_faults inside is.table s) sets) right)
-      (back_none (term_faults inside set.1) (flat_map (λ s. term_faults inside s.1) sets) reads) rest)
+      (front_none (no_column is.table set.0 ++ fault_if (is_key is.table set.0) set.0.spot Typing) (type_faults inside is.table set.0 set.1) one) in (
+        term.reads,
+        typed (column_of is.table set.0) refl (no_fault (is_none (column_of is.table set.0)) set.0.spot Unknown column_right) (subst (λ l. numbered_in l set.0 ≡ set.0) meant column_own) term.type types_right,
+        sets_suit k known t is sets knowns (back_none (set_faults inside is.table set) (flat_map (λ s. set_faults inside is.table s) sets) right)
+            (back_none (term_faults inside set.1) (flat_map (λ s. term_faults inside s.1) sets) reads) rest,
+      )
     where
-      typed : (o : Option Column) → column_of is.table set.0 ≡ o → is_none o ≡ false → numbered_in (column_names is.table) set.0 ≡ set.0 → terms.type_of (scopes.updating (at known) t) set.1 ≡ Some (type_of f.schema N t.num set.1)
-          → type_faults (scopes.updating (at known) t) is.table set.0 set.1 ≡ [] → type_of f.schema N t.num set.1 ≡ column_type f.schema t.num set.0.num
+      typed : (o : Option Column) → column_of is.table set.0 ≡ o → is_none o ≡ false → numbered_in (column_names is.table) set.0 ≡ set.0 → terms.type_of (scopes.updating (at known) t) set.1 ≡ Some (type_of f.schema last_names t.num set.1)
+          → type_faults (scopes.updating (at known) t) is.table set.0 set.1 ≡ [] → type_of f.schema last_names t.num set.1 ≡ column_type f.schema t.num set.0.num
       typed None e known_is own_is term_type right_is = absurd cc
       typed (Some c) e known_is own_is term_type right_is =
-          let same : c.ty ≡ type_of f.schema N t.num set.1 = not_apart (option_map (λ (x : Column). x.ty) (column_of is.table set.0)) (terms.type_of (scopes.updating (at known) t) set.1) c.ty (type_of f.schema N t.num set.1) (spot_of set.1)
+          let same : c.ty ≡ type_of f.schema last_names t.num set.1 = not_apart (option_map (λ (x : Column). x.ty) (column_of is.table set.0)) (terms.type_of (scopes.updating (at known) t) set.1) c.ty (type_of f.schema last_names t.num set.1) (spot_of set.1)
           (ap (λ o. option_map (λ (x : Column). x.ty) o) e) term_type right_is in
           sym same ∙ sym (ap (λ o. type_in (slice_get (columns_at o) set.0.num)) is.at ∙ ap type_in (column_named is.table set.0 c own_is e))
 
   value_known : (k : ℕ) (x : Ident) (m : Meaning) → numbered_name (all f) x ≡ x → x.num ≡ k → MeaningIs f m x → KnownIs f (suc k) (record { name = x; meaning = m })
   value_known k x m own number meaning = record { own = own; below = omega (arith, number); meaning = meaning }
 
-  row_table : (known : List Known) (t : Ident) (rule : Declaration → List Refusal) (more : List Refusal) → numbered_table_name (all f) t ≡ t → at_table (table_of f.schema t) t rule ++ more ≡ [] → AtTable f.schema t rule
-  row_table known t rule more own right = at_right f.schema t rule own (front_none (at_table (table_of f.schema t) t rule) more right)
+  row_table : (t : Ident) (rule : Declaration → List Refusal) (more : List Refusal) → numbered_table_name (all f) t ≡ t → at_table (table_of f.schema t) t rule ++ more ≡ [] → AtTable f.schema t rule
+  row_table t rule more own right = at_right f.schema t rule own (front_none (at_table (table_of f.schema t) t rule) more right)
 
   -- what is known behind a statement
   known_behind : (c : Command) (known : List Known) (k : ℕ) → AllKnown f k known → numbered_command (all f) c ≡ c → HereFrom f k (command_declares c) → command_faults (at known) c ≡ [] → Suits f (at known) c
@@ -193,13 +192,13 @@ module _ (f : Frame) (accepted : AcceptedSchema f.schema) (once : repeats (txn_n
       let same : numbered_name (all f) x ≡ x = cc in
       let term_own : numbered_term (all f) e ≡ e = cc in
       let term = plain_term k known e is right term_own in
-      let typed : declared_type (at known) e ≡ Some (item types.Int N.types x.num) = ap (λ l. type_if_right l (terms.type_of (at known) e)) right ∙ term.type ∙ ap (λ ty. Some ty) (sym suits.1) in
+      let typed : declared_type (at known) e ≡ Some (item types.Int last_names.types x.num) = ap (λ l. type_if_right l (terms.type_of (at known) e)) right ∙ term.type ∙ ap (λ ty. Some ty) (sym suits.1) in
       (value_known k x (Local (declared_type (at known) e)) same (here_number f once k (plain_name x) here.0 same) typed, known_more f k (suc k) known (omega arith) is)
   known_behind (Assign x e) known k is own here right suits = is
   known_behind (Fetch r t key) known k is own here right suits =
       let same : numbered_name (all f) r ≡ r = cc in
       let table_own : numbered_table_name (all f) t ≡ t = cc in
-      let row = row_table known t (λ d. value_list_faults (at known) d d.key key t) (all_term_faults (at known) key) table_own right in
+      let row = row_table t (λ d. value_list_faults (at known) d d.key key t) (all_term_faults (at known) key) table_own right in
       (value_known k r (RowOf t) same (here_number f once k (row_name r t) here.0 same) (suits.1, row.is, here_table f once k r t here.0), known_more f k (suc k) known (omega arith) is)
   known_behind (Choose test ys ns) known k is own here right suits = known_more f k (after k (block_declares ys ++ block_declares ns)) known (not_before k (block_declares ys ++ block_declares ns)) is
   known_behind (ForRows r t test body) known k is own here right suits = known_more f k (after (suc k) (block_declares body)) known (let le : suc k ≤ after (suc k) (block_declares body) = not_before (suc k) (block_declares body) in omega (arith, le)) is
@@ -211,23 +210,23 @@ module _ (f : Frame) (accepted : AcceptedSchema f.schema) (once : repeats (txn_n
   known_behind (Reply e) known k is own here right suits = is
 
   -- the final type of a name, and the final table of a row
-  final_type : (k x : ℕ) (ty : Ty) (n : Names) → x ≡ k → Agree (suc k) (with_type x ty n) N → item types.Int N.types x ≡ ty
+  final_type : (k x : ℕ) (ty : Ty) (n : Names) → x ≡ k → Agree (suc k) (with_type x ty n) last_names → item types.Int last_names.types x ≡ ty
   final_type k x ty n number agree = sym (agree x (omega (arith, number))).0 ∙ item_here types.Int ty x n.types
 
-  final_table : (k r t : ℕ) (n : Names) → r ≡ k → Agree (suc k) (with_table r t n) N → item 0 N.tables r ≡ t
+  final_table : (k r t : ℕ) (n : Names) → r ≡ k → Agree (suc k) (with_table r t n) last_names → item 0 last_names.tables r ≡ t
   final_table k r t n number agree = sym (agree r (omega (arith, number))).1 ∙ item_here 0 t r n.tables
 
   -- an assignment is of its variable's type
-  assigned_type : (k : ℕ) (known : List Known) (x : Ident) (e : Term) → AllKnown f k known → numbered_name (all f) x ≡ x → terms.type_of (at known) e ≡ Some (type_of f.schema N 0 e)
-      → assignment_faults (at known) (meaning_of (at known) x) x e ≡ [] → TypeIs f x (type_of f.schema N 0 e)
+  assigned_type : (k : ℕ) (known : List Known) (x : Ident) (e : Term) → AllKnown f k known → numbered_name (all f) x ≡ x → terms.type_of (at known) e ≡ Some (type_of f.schema last_names 0 e)
+      → assignment_faults (at known) (meaning_of (at known) x) x e ≡ [] → TypeIs f x (type_of f.schema last_names 0 e)
   assigned_type k known x e is own typed right = by_meaning (meaning_of (at known) x) refl right
     where
-      by_meaning : (o : Option Meaning) → meaning_of (at known) x ≡ o → assignment_faults (at known) o x e ≡ [] → TypeIs f x (type_of f.schema N 0 e)
+      by_meaning : (o : Option Meaning) → meaning_of (at known) x ≡ o → assignment_faults (at known) o x e ≡ [] → TypeIs f x (type_of f.schema last_names 0 e)
       by_meaning None named right = absurd (bad_fault f x.spot Unknown right)
       by_meaning (Some (Parameter ty)) named right = absurd (bad_fault f x.spot Typing right)
       by_meaning (Some (Local ty)) named right =
           let here = found f k known x (Local ty) is own named in
-          not_apart ty (terms.type_of (at known) e) (item types.Int N.types x.num) (type_of f.schema N 0 e) (spot_of e) here.meaning typed right
+          not_apart ty (terms.type_of (at known) e) (item types.Int last_names.types x.num) (type_of f.schema last_names 0 e) (spot_of e) here.meaning typed right
       by_meaning (Some (RowOf t)) named right = absurd (bad_fault f x.spot Typing right)
       by_meaning (Some Element) named right = absurd (bad_fault f x.spot Typing right)
 
@@ -237,7 +236,7 @@ module _ (f : Frame) (accepted : AcceptedSchema f.schema) (once : repeats (txn_n
 
   mutual
     command_suits : (c : Command) (known : List Known) (n : Names) (k : ℕ) → AllKnown f k known → numbered_command (all f) c ≡ c → HereFrom f k (command_declares c) → command_faults (at known) c ≡ [] → inner_faults (at known) c ≡ []
-        → Agree k n N → Agree (after k (command_declares c)) (command_names f.schema c n) N → Each LoopIs (command_loops c) → Suits f (at known) c
+        → Agree k n last_names → Agree (after k (command_declares c)) (command_names f.schema c n) last_names → Each LoopIs (command_loops c) → Suits f (at known) c
     command_suits (Declare x e) known n k is own here right inner begin final loops =
         let same : numbered_name (all f) x ≡ x = cc in
         let term_own : numbered_term (all f) e ≡ e = cc in
@@ -250,9 +249,10 @@ module _ (f : Frame) (accepted : AcceptedSchema f.schema) (once : repeats (txn_n
         (term.reads, assigned_type k known x e is same term.type (front_none (assignment_faults (at known) (meaning_of (at known) x) x e) (term_faults (at known) e) right))
     command_suits (Fetch r t key) known n k is own here right inner begin final loops =
         let same : numbered_name (all f) r ≡ r = cc in
-        let keys_own : numbered_terms (all f) key ≡ key = cc in
-        (plain_terms k known key is (back_none (at_table (table_of f.schema t) t (λ d. value_list_faults (at known) d d.key key t)) (all_term_faults (at known) key) right) keys_own,
-        final_table k r.num t.num n (here_number f once k (row_name r t) here.0 same) final)
+        let keys_own : numbered_terms (all f) key ≡ key = cc in (
+          plain_terms k known key is (back_none (at_table (table_of f.schema t) t (λ d. value_list_faults (at known) d d.key key t)) (all_term_faults (at known) key) right) keys_own,
+          final_table k r.num t.num n (here_number f once k (row_name r t) here.0 same) final,
+        )
     command_suits (Choose test ys ns) known n k is own here right inner begin final loops =
         let test_own : numbered_test (all f) test ≡ test = cc in
         let one : numbered_block (all f) ys ≡ ys = cc in
@@ -260,21 +260,22 @@ module _ (f : Frame) (accepted : AcceptedSchema f.schema) (once : repeats (txn_n
         let split = here_split f k (block_declares ys) (block_declares ns) here in
         let mid : Names = block_names f.schema ys n in
         let mid_k : ℕ = after k (block_declares ys) in
-        let final_ns : Agree (after mid_k (block_declares ns)) (block_names f.schema ns mid) N = subst (λ j. Agree j (block_names f.schema ns mid) N) (after_append k (block_declares ys) (block_declares ns)) final in
-        let final_ys : Agree mid_k mid N = agree_then mid_k mid (block_names f.schema ns mid) N (block_stays f once ns mid mid_k two split.1)
-        (agree_fewer mid_k (after mid_k (block_declares ns)) (block_names f.schema ns mid) N (not_before mid_k (block_declares ns)) final_ns) in
-        (test_reads f k known None [] 0 is tt test right test_own,
-        block_suits ys known n k is one split.0 (front_none (block_faults (at known) ys) (block_faults (at known) ns) inner) begin final_ys (each_left LoopIs (block_loops ys) (block_loops ns) loops),
-        block_suits ns known mid mid_k (known_more f k mid_k known (not_before k (block_declares ys)) is) two split.1 (back_none (block_faults (at known) ys) (block_faults (at known) ns) inner) final_ys final_ns
-        (each_right LoopIs (block_loops ys) (block_loops ns) loops))
+        let final_ns : Agree (after mid_k (block_declares ns)) (block_names f.schema ns mid) last_names = subst (λ j. Agree j (block_names f.schema ns mid) last_names) (after_append k (block_declares ys) (block_declares ns)) final in
+        let final_ys : Agree mid_k mid last_names = agree_then mid_k mid (block_names f.schema ns mid) last_names (block_stays f once ns mid mid_k two split.1)
+        (agree_fewer mid_k (after mid_k (block_declares ns)) (block_names f.schema ns mid) last_names (not_before mid_k (block_declares ns)) final_ns) in (
+          test_reads f k known None [] 0 is tt test right test_own,
+          block_suits ys known n k is one split.0 (front_none (block_faults (at known) ys) (block_faults (at known) ns) inner) begin final_ys (each_left LoopIs (block_loops ys) (block_loops ns) loops),
+          block_suits ns known mid mid_k (known_more f k mid_k known (not_before k (block_declares ys)) is) two split.1 (back_none (block_faults (at known) ys) (block_faults (at known) ns) inner) final_ys final_ns
+              (each_right LoopIs (block_loops ys) (block_loops ns) loops),
+        )
     command_suits (ForRows r t test body) known n k is own here right inner begin final loops =
         let same : numbered_name (all f) r ≡ r = cc in
         let table_own : numbered_table_name (all f) t ≡ t = cc in
         let body_own : numbered_block (all f) body ≡ body = cc in
         let mid : Names = with_table r.num t.num n in
         let number : r.num ≡ k = here_number f once k (row_name r t) here.0 same in
-        let start : Agree (suc k) mid N = agree_then (suc k) mid (block_names f.schema body mid) N (block_stays f once body mid (suc k) body_own here.1)
-        (agree_fewer (suc k) (after (suc k) (block_declares body)) (block_names f.schema body mid) N (not_before (suc k) (block_declares body)) final) in
+        let start : Agree (suc k) mid last_names = agree_then (suc k) mid (block_names f.schema body mid) last_names (block_stays f once body mid (suc k) body_own here.1)
+        (agree_fewer (suc k) (after (suc k) (block_declares body)) (block_names f.schema body mid) last_names (not_before (suc k) (block_declares body)) final) in
         let of_table : IsTable f.schema t = there f.schema t table_own (front_none (no_table f.schema t) (condition_faults (knowing (at known) r (RowOf t)) test) right) in
         let table : TableIs f r t = final_table k r.num t.num n number start in
         let row : KnownIs f (suc k) (record { name = r; meaning = RowOf t }) = value_known k r (RowOf t) same number (table, of_table, here_table f once k r t here.0) in
@@ -284,8 +285,8 @@ module _ (f : Frame) (accepted : AcceptedSchema f.schema) (once : repeats (txn_n
         let body_own : numbered_block (all f) body ≡ body = cc in
         let mid : Names = with_type x.num types.Int n in
         let number : x.num ≡ k = here_number f once k (plain_name x) here.0 same in
-        let start : Agree (suc k) mid N = agree_then (suc k) mid (block_names f.schema body mid) N (block_stays f once body mid (suc k) body_own here.1)
-        (agree_fewer (suc k) (after (suc k) (block_declares body)) (block_names f.schema body mid) N (not_before (suc k) (block_declares body)) final) in
+        let start : Agree (suc k) mid last_names = agree_then (suc k) mid (block_names f.schema body mid) last_names (block_stays f once body mid (suc k) body_own here.1)
+        (agree_fewer (suc k) (after (suc k) (block_declares body)) (block_names f.schema body mid) last_names (not_before (suc k) (block_declares body)) final) in
         let typed : TypeIs f x types.Int = final_type k x.num types.Int n number start in
         let item_known : KnownIs f (suc k) (record { name = x; meaning = Element }) = value_known k x Element same number typed in
         (typed, loops.0, block_suits body (record { name = x; meaning = Element } ∷ known) mid (suc k) (item_known, known_more f k (suc k) known (omega arith) is) body_own here.1 inner start final loops.1)
@@ -293,12 +294,13 @@ module _ (f : Frame) (accepted : AcceptedSchema f.schema) (once : repeats (txn_n
         let table_own : numbered_table_name (all f) t ≡ t = cc in
         let values_own : numbered_terms (all f) es ≡ es = cc in
         let rule : Declaration → List Refusal = λ d. kind_faults d acts.Insert t ++ value_list_faults (at known) d (column_names d) es t in
-        let row = row_table known t rule (all_term_faults (at known) es) table_own right in
+        let row = row_table t rule (all_term_faults (at known) es) table_own right in
         let reads = back_none (at_table (table_of f.schema t) t rule) (all_term_faults (at known) es) right in
-        let d : Declaration = row.is.table in
-        (plain_terms k known es is reads values_own,
-        allowed f.schema t row.is acts.Insert (front_none (kind_faults d acts.Insert t) (value_list_faults (at known) d (column_names d) es t) row.right),
-        of_columns k known t row.is es is (back_none (kind_faults d acts.Insert t) (value_list_faults (at known) d (column_names d) es t) row.right) reads values_own)
+        let d : Declaration = row.is.table in (
+          plain_terms k known es is reads values_own,
+          allowed f.schema t row.is acts.Insert (front_none (kind_faults d acts.Insert t) (value_list_faults (at known) d (column_names d) es t) row.right),
+          of_columns k known t row.is es is (back_none (kind_faults d acts.Insert t) (value_list_faults (at known) d (column_names d) es t) row.right) reads values_own,
+        )
     command_suits (Update t key sets) known n k is own here right inner begin final loops =
         let table_own : numbered_table_name (all f) t ≡ t = cc in
         let keys_own : numbered_terms (all f) key ≡ key = cc in
@@ -309,27 +311,29 @@ module _ (f : Frame) (accepted : AcceptedSchema f.schema) (once : repeats (txn_n
         let inside : List Refusal = flat_map (λ s. term_faults (scopes.updating (at known) t) s.1) sets in
         let whole : List Refusal = at_table (table_of f.schema t) t rule in
         let front = front_none (whole ++ keys) twice (front_none (whole ++ keys ++ twice) inside right) in
-        let row = row_table known t rule keys table_own front in
+        let row = row_table t rule keys table_own front in
         let d : Declaration = row.is.table in
-        let kinds = front_none (kind_faults d acts.Update t ++ value_list_faults (at known) d d.key key t) (sets_faults (at known) t d sets) row.right in
-        (plain_terms k known key is (back_none whole keys front) keys_own,
-        allowed f.schema t row.is acts.Update (front_none (kind_faults d acts.Update t) (value_list_faults (at known) d d.key key t) kinds),
-        sets_suit k known t row.is sets is (back_none (kind_faults d acts.Update t ++ value_list_faults (at known) d d.key key t) (sets_faults (at known) t d sets) row.right) (back_none (whole ++ keys ++ twice) inside right) sets_own)
+        let kinds = front_none (kind_faults d acts.Update t ++ value_list_faults (at known) d d.key key t) (sets_faults (at known) t d sets) row.right in (
+          plain_terms k known key is (back_none whole keys front) keys_own,
+          allowed f.schema t row.is acts.Update (front_none (kind_faults d acts.Update t) (value_list_faults (at known) d d.key key t) kinds),
+          sets_suit k known t row.is sets is (back_none (kind_faults d acts.Update t ++ value_list_faults (at known) d d.key key t) (sets_faults (at known) t d sets) row.right) (back_none (whole ++ keys ++ twice) inside right) sets_own,
+        )
     command_suits (Remove t key) known n k is own here right inner begin final loops =
         let table_own : numbered_table_name (all f) t ≡ t = cc in
         let keys_own : numbered_terms (all f) key ≡ key = cc in
         let rule : Declaration → List Refusal = λ d. kind_faults d acts.Remove t ++ value_list_faults (at known) d d.key key t in
-        let row = row_table known t rule (all_term_faults (at known) key) table_own right in
-        let d : Declaration = row.is.table in
-        (plain_terms k known key is (back_none (at_table (table_of f.schema t) t rule) (all_term_faults (at known) key) right) keys_own,
-        allowed f.schema t row.is acts.Remove (front_none (kind_faults d acts.Remove t) (value_list_faults (at known) d d.key key t) row.right))
+        let row = row_table t rule (all_term_faults (at known) key) table_own right in
+        let d : Declaration = row.is.table in (
+          plain_terms k known key is (back_none (at_table (table_of f.schema t) t rule) (all_term_faults (at known) key) right) keys_own,
+          allowed f.schema t row.is acts.Remove (front_none (kind_faults d acts.Remove t) (value_list_faults (at known) d d.key key t) row.right),
+        )
     command_suits (Abort m) known n k is own here right inner begin final loops = tt
     command_suits (Reply e) known n k is own here right inner begin final loops =
         let term_own : numbered_term (all f) e ≡ e = cc in
         (plain_term k known e is right term_own).reads
 
     pub block_suits : (b : Block) (known : List Known) (n : Names) (k : ℕ) → AllKnown f k known → numbered_block (all f) b ≡ b → HereFrom f k (block_declares b) → block_faults (at known) b ≡ []
-        → Agree k n N → Agree (after k (block_declares b)) (block_names f.schema b n) N → Each LoopIs (block_loops b) → BlockSuits f (at known) b
+        → Agree k n last_names → Agree (after k (block_declares b)) (block_names f.schema b n) last_names → Each LoopIs (block_loops b) → BlockSuits f (at known) b
     block_suits Finish known n k is own here right begin final loops = tt
     block_suits (Then c b) known n k is own here right begin final loops =
         let one : numbered_command (all f) c ≡ c = cc in
@@ -337,9 +341,9 @@ module _ (f : Frame) (accepted : AcceptedSchema f.schema) (once : repeats (txn_n
         let split = here_split f k (command_declares c) (block_declares b) here in
         let mid : Names = command_names f.schema c n in
         let mid_k : ℕ = after k (command_declares c) in
-        let final_b : Agree (after mid_k (block_declares b)) (block_names f.schema b mid) N = subst (λ j. Agree j (block_names f.schema b mid) N) (after_append k (command_declares c) (block_declares b)) final in
-        let final_c : Agree mid_k mid N = agree_then mid_k mid (block_names f.schema b mid) N (block_stays f once b mid mid_k two split.1)
-        (agree_fewer mid_k (after mid_k (block_declares b)) (block_names f.schema b mid) N (not_before mid_k (block_declares b)) final_b) in
+        let final_b : Agree (after mid_k (block_declares b)) (block_names f.schema b mid) last_names = subst (λ j. Agree j (block_names f.schema b mid) last_names) (after_append k (command_declares c) (block_declares b)) final in
+        let final_c : Agree mid_k mid last_names = agree_then mid_k mid (block_names f.schema b mid) last_names (block_stays f once b mid mid_k two split.1)
+        (agree_fewer mid_k (after mid_k (block_declares b)) (block_names f.schema b mid) last_names (not_before mid_k (block_declares b)) final_b) in
         let own_faults : List Refusal = command_faults (at known) c in
         let nested : List Refusal = inner_faults (at known) c in
         let behind_faults : List Refusal = block_faults (behind (at known) c) b in

@@ -1,5 +1,5 @@
 -- A change that fits keeps what holds; rows are removed.
-use Rattle.std.proofs.Common.{◌≡◌, ◌∙◌, ℕ, ◌<◌, ◌≤◌, ◌+◌, nat_lt, if◌then◌else◌, cond, Bool, true, false, List, [], ◌∷◌, ◌++◌, length, map, Option, Some, None, slice_get, refl, sym, ap, subst, arith}
+use Rattle.std.proofs.Common.{◌≡◌, ◌∙◌, ◌<◌, nat_lt, if◌then◌else◌, cond, Bool, true, false, List, [], ◌∷◌, ◌++◌, length, map, Option, Some, None, refl, sym, subst, arith}
 use Rattle.std.specs.List.{All}
 use Rattle.std.specs.FinMap.{get, insert, get-insert}
 use Rattle.std.specs.Ordering.{eq_by_cmp}
@@ -14,7 +14,7 @@ use Rattle.sv_app.specs.declared.gots.Got.{Got}
 use Rattle.sv_app.specs.declared.gots.Got.TheVariants.{Num, Text as IsText}
 use Rattle.sv_app.specs.declared.places.Place.{Place}
 use Rattle.sv_app.specs.declared.schemas.Column.{Column}
-use Rattle.sv_app.specs.Paths.{Way, Leads, terms_way}
+use Rattle.sv_app.specs.Paths.{Leads, terms_way}
 use Rattle.sv_app.specs.Schema.{Declaration}
 use Rattle.sv_app.specs.Scopes.{Scope}
 use Rattle.sv_app.specs.Tables.{Row, place_cmp}
@@ -23,7 +23,7 @@ use Rattle.sv_app.proofs.PlaceLaws.{place_total, exact_places}
 use Rattle.sv_effect.specs.declared.ops.RowEffect.{RowEffect}
 use Rattle.sv_effect.specs.declared.outcomes.Outcome.TheVariants as outcomes
 use Rattle.sv_effect.specs.Fits.{FitsSchema, AllFit}
-use Rattle.sv_effect.specs.Run.{Stand, Flow, Goes, Ends, with_scope, place_of_row, changed, row_with, removed}
+use Rattle.sv_effect.specs.Run.{Stand, Goes, Ends, with_scope, place_of_row, changed, row_with, removed}
 use Rattle.sv_effect.specs.RunChanges.{Effect, effect_of}
 use Rattle.sv_effect.specs.RunValues.{Scope as Values, Gives, values_of}
 use Rattle.sv_effect.specs.RowsFit.{GotFits, GotsFit, ValuesAreOf}

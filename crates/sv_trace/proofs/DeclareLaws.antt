@@ -1,6 +1,6 @@
 -- The names that a transaction declares have their places as numbers, and later declarations leave earlier ones as they are.
-use Rattle.std.proofs.Common.{◌≡◌, ◌∙◌, ℕ, zero, suc, ◌+◌, ◌<◌, ◌≤◌, ◌==◌, Bool, true, false, if◌then◌else◌, List, [], ◌∷◌, ◌++◌, map, Option, Some, None, slice_get, refl, sym, ap, subst, arith, append_assoc}
-use Rattle.std.specs.List.{find, flat_map}
+use Rattle.std.proofs.Common.{◌≡◌, ◌∙◌, ℕ, suc, ◌≤◌, List, [], ◌∷◌, ◌++◌, Some, slice_get, refl, sym, ap, arith}
+use Rattle.std.specs.List.{flat_map}
 use Rattle.std.specs.Option.{option_map, option_and_then, unwrap_or}
 use Rattle.std.proofs.lemmas.Grind.{flat_map-append}
 use Rattle.std.proofs.lemmas.Option.{slice_get-map}
@@ -8,9 +8,7 @@ use Rattle.sv_app.specs.declared.apps.Ident.{Ident}
 use Rattle.sv_app.specs.declared.names.Declared.{Declared}
 use Rattle.sv_app.specs.declared.schemas.Ty.{Ty}
 use Rattle.sv_app.specs.declared.schemas.Ty.TheVariants as types
-use Rattle.sv_app.specs.Lookups.{is_named}
 use Rattle.sv_app.specs.Paths.{Names, with_type, with_table, type_of, command_names, block_names}
-use Rattle.sv_app.specs.Slots.{item}
 use Rattle.sv_app.specs.Statements.{inner_statements, block_statements}
 use Rattle.sv_app.specs.Trees.{Command, Declare, Assign, Fetch, Choose, ForRows, ForEach, Insert, Update, Remove, Abort, Reply, Block, Finish, Then}
 use Rattle.sv_app.specs.TxnNames.{plain_name, row_name, declared_by, declares, names_of}
@@ -19,7 +17,7 @@ use Rattle.sv_app.specs.Typing.{repeats}
 use Rattle.sv_trace.specs.Standing.{Frame}
 use Rattle.sv_trace.proofs.NamingLaws.{all, Agree, table_declared}
 use Rattle.sv_trace.proofs.SchemaLaws.{own_first, own_place}
-use Rattle.sv_trace.proofs.SlotLaws.{item_here, item_other}
+use Rattle.sv_trace.proofs.SlotLaws.{item_other}
 
 -- the declarations in a block, in the order of the text
 abbrev mutual
@@ -121,19 +119,19 @@ module _ (f : Frame) (once : repeats (names_of f.txn) ≡ []) where
         let split = here_split f k (block_declares ys) (block_declares ns) here in
         let mid : Names = block_names f.schema ys n in
         agree_then k n mid (block_names f.schema ns mid) (block_stays ys n k one split.0)
-            (agree_fewer k (after k (block_declares ys)) mid (block_names f.schema ns mid) (not_before k (block_declares ys)) (block_stays ns mid (after k (block_declares ys)) two split.1))
+        (agree_fewer k (after k (block_declares ys)) mid (block_names f.schema ns mid) (not_before k (block_declares ys)) (block_stays ns mid (after k (block_declares ys)) two split.1))
     command_stays (ForRows r t test body) n k own here =
         let same : numbered_name (all f) r ≡ r = cc in
         let inner : numbered_block (all f) body ≡ body = cc in
         let mid : Names = with_table r.num t.num n in
         agree_then k n mid (block_names f.schema body mid) (agree_table k r.num t.num n (here_number k (row_name r t) here.0 same))
-            (agree_fewer k (suc k) mid (block_names f.schema body mid) (omega arith) (block_stays body mid (suc k) inner here.1))
+        (agree_fewer k (suc k) mid (block_names f.schema body mid) (omega arith) (block_stays body mid (suc k) inner here.1))
     command_stays (ForEach x l body) n k own here =
         let same : numbered_name (all f) x ≡ x = cc in
         let inner : numbered_block (all f) body ≡ body = cc in
         let mid : Names = with_type x.num types.Int n in
         agree_then k n mid (block_names f.schema body mid) (agree_type k x.num types.Int n (here_number k (plain_name x) here.0 same))
-            (agree_fewer k (suc k) mid (block_names f.schema body mid) (omega arith) (block_stays body mid (suc k) inner here.1))
+        (agree_fewer k (suc k) mid (block_names f.schema body mid) (omega arith) (block_stays body mid (suc k) inner here.1))
     command_stays (Insert t es) n k own here = agree_same k n
     command_stays (Update t key sets) n k own here = agree_same k n
     command_stays (Remove t key) n k own here = agree_same k n
@@ -148,4 +146,4 @@ module _ (f : Frame) (once : repeats (names_of f.txn) ≡ []) where
         let split = here_split f k (command_declares c) (block_declares b) here in
         let mid : Names = command_names f.schema c n in
         agree_then k n mid (block_names f.schema b mid) (command_stays c n k one split.0)
-            (agree_fewer k (after k (command_declares c)) mid (block_names f.schema b mid) (not_before k (command_declares c)) (block_stays b mid (after k (command_declares c)) two split.1))
+        (agree_fewer k (after k (command_declares c)) mid (block_names f.schema b mid) (not_before k (command_declares c)) (block_stays b mid (after k (command_declares c)) two split.1))

@@ -1,5 +1,5 @@
 -- Inserts: each column outside the key is written by what fits it.
-use Rattle.std.proofs.Common.{◌≡◌, ◌∙◌, ℕ, ℤ, zero, suc, ◌+◌, ◌<◌, ◌-ℤ◌, ◌==◌, ◌||◌, if◌then◌else◌, Bool, true, false, List, [], ◌∷◌, ◌++◌, length, map, Option, Some, None, slice_get, unwrap_or, refl, sym, ap, subst, arith}
+use Rattle.std.proofs.Common.{◌≡◌, ◌∙◌, ℕ, zero, suc, ◌+◌, ◌<◌, ◌-ℤ◌, ◌==◌, ◌||◌, if◌then◌else◌, Bool, true, false, List, [], ◌∷◌, length, map, Option, Some, None, slice_get, unwrap_or, refl, sym, ap, subst, arith}
 use Rattle.std.specs.Option.{option_map}
 use Rattle.std.proofs.lemmas.Option.{slice_get-map}
 use Rattle.sv_value.specs.declared.values.Val.{Val}
@@ -29,7 +29,7 @@ use Rattle.sv_effect.specs.declared.outcomes.Outcome.TheVariants as outcomes
 use Rattle.sv_effect.specs.Fits.{KeyFits, WriteFits, IsWrite, AreWrites, AllAbove, Ascending, columns_written, is_written, is_key_column}
 use Rattle.sv_effect.specs.RowChange.{key_values}
 use Rattle.sv_effect.specs.Run.{Stand, Flow, Goes, Ends, with_scope, on_value, changed, row_with, inserted}
-use Rattle.sv_effect.specs.RunChanges.{Effect, key_in, with_writes, delta_to, kept_to, insert_of, inserts, kept_values, stands}
+use Rattle.sv_effect.specs.RunChanges.{Effect, key_in, with_writes, kept_to, insert_of, inserts, kept_values, stands}
 use Rattle.sv_effect.specs.RunValues.{nothing, Scope as Values, with_progress, put, narrow, Gives, then_value, val_of, column, values_of}
 use Rattle.sv_effect.specs.TablesOfCut.{number_in}
 use Rattle.sv_effect.proofs.TestLaws.{same_test}
@@ -100,7 +100,7 @@ written_or true b e = refl
 written_or false b e = e
 
 module _ (d : Declaration) (vs : List Val) (kept : List Got) (grows : Bool) (integers : (c : ℕ) (k : Column) → slice_get d.columns c ≡ Some k → k.merge ≡ merges.NumDelta → k.ty ≡ types.Int)
-    (typed : (c : ℕ) (k : Column) → slice_get d.columns c ≡ Some k → type_of_val (item nothing vs c) ≡ k.ty) (types' : (c : ℕ) (k : Column) → slice_get d.columns c ≡ Some k → type_of_got (column kept c) ≡ k.ty)
+    (typed : (c : ℕ) (k : Column) → slice_get d.columns c ≡ Some k → type_of_val (item nothing vs c) ≡ k.ty) (kept_typed_at : (c : ℕ) (k : Column) → slice_get d.columns c ≡ Some k → type_of_got (column kept c) ≡ k.ty)
     (grown : is_grow_only d.kind ≡ grows) where
   inserts_at : (c : ℕ) (columns : List Column) (s : Values) (ws : List (ℕ × Write)) (z : Values) → AreFrom d c columns → inserts d vs kept c columns s ≡ Gives ws z
       → Inserts d c columns (where_kept grows (columns_way d c columns)) s ws z
@@ -145,7 +145,7 @@ module _ (d : Declaration) (vs : List Val) (kept : List Got) (grows : Bool) (int
           let g = then_gives (insert_of (is_grow_only d.kind) k.merge (item nothing vs c) (column kept c) s) (λ w u. then_value (inserts d vs kept (suc c) columns u) (λ ls y. Gives ((c, w) ∷ ls) y)) ws z is in
           let h = then_gives (inserts d vs kept (suc c) columns g.scope) (λ ls y. Gives ((c, g.value) ∷ ls) y) ws z g.last in
           let gives = ap (λ b. insert_of b k.merge (item nothing vs c) (column kept c) s) (sym grown) ∙ g.first in
-          let step = insert_step k grows k.merge (item nothing vs c) (column kept c) s g.value g.scope refl (integers c k here) (typed c k here) (types' c k here) gives in
+          let step = insert_step k grows k.merge (item nothing vs c) (column kept c) s g.value g.scope refl (integers c k here) (typed c k here) (kept_typed_at c k here) gives in
           let rest = more g.scope h.value h.scope h.first in
           let way : Way → Way = λ w. columns_way d (suc c) columns (kept_way k.merge w) in
           let write : IsWrite d c g.value = record { column = k; declared = here; outside = key_same d.key c ∙ key; fits = step.fits } in
@@ -157,7 +157,7 @@ module _ (d : Declaration) (vs : List Val) (kept : List Got) (grows : Bool) (int
             went = kept_then grows (kept_way k.merge) (columns_way d (suc c) columns) s g.scope h.scope step.went rest.went;
           } in
           subst (λ y. Inserts d c (k ∷ columns) (where_kept grows way) s ws y) (same_scope ((c, g.value) ∷ h.value) ws h.scope z h.last)
-              (subst (λ l. Inserts d c (k ∷ columns) (where_kept grows way) s l h.scope) (same_value ((c, g.value) ∷ h.value) ws h.scope z h.last) done)
+          (subst (λ l. Inserts d c (k ∷ columns) (where_kept grows way) s l h.scope) (same_value ((c, g.value) ∷ h.value) ws h.scope z h.last) done)
         where
           whole : (w : Write) (ls : List (ℕ × Write)) → ((j : ℕ) → j < length columns → is_key_column d.key (suc c + j) ≡ false → is_written (suc c + j) ls ≡ true) → (j : ℕ) → j < length (k ∷ columns)
               → is_key_column d.key (c + j) ≡ false → is_written (c + j) ((c, w) ∷ ls) ≡ true
@@ -175,8 +175,8 @@ val_at tys vs c e = by_slot (slice_get vs c) ∙ ap (λ o. unwrap_or o types.Int
     by_slot (Some v) = refl
 
 -- an insert went on: no present row stands there
-went_in : (d : Declaration) (p : Place) (vs : List Val) (row : Option Row) (st end : Stand) (go : Flow) → (if stands row then Ends outcomes.Exists else go) ≡ Goes end → go ≡ Goes end
-went_in d p vs row st end go is = by_row (stands row) is
+went_in : (row : Option Row) (end : Stand) (go : Flow) → (if stands row then Ends outcomes.Exists else go) ≡ Goes end → go ≡ Goes end
+went_in row end go is = by_row (stands row) is
   where
     by_row : (b : Bool) → (if b then Ends outcomes.Exists else go) ≡ Goes end → go ≡ Goes end
     by_row true e = absurd cc
@@ -202,12 +202,12 @@ makes_insert f at t es st vs z d p row end command holds is declared place found
     let key : KeyFits d.columns d.key (key_values p.key) = subst (λ (q : Place). KeyFits d.columns d.key (key_values q.key)) (sym place) (key_fits f.schema accepted t.num d vs declared typed) in
     let kept : List Got = kept_values d p.key row in
     let kept_typed = kept_types f.schema accepted p d row here key found in
-    let types' : (c : ℕ) (k : Column) → slice_get d.columns c ≡ Some k → type_of_got (column kept c) ≡ k.ty =
+    let kept_typed_at : (c : ℕ) (k : Column) → slice_get d.columns c ≡ Some k → type_of_got (column kept c) ≡ k.ty =
     λ c k at_column. type_at (map (λ (x : Column). x.ty) d.columns) kept c kept_typed ∙ type_of_column d.columns c ∙ ap type_in at_column in
     let go : List (ℕ × Write) → Stand → Flow =
     λ ws y. changed (record { place = p; act = acts.Insert; writes = ws; instance = y.scope.progress.number }) (row_with (with_writes ws kept) true) y in
-    let ran = on_value_goes (inserts d vs kept 0 d.columns z) (with_scope st z) go end (went_in d p vs row st end (on_value (inserts d vs kept 0 d.columns z) (with_scope st z) go) goes) in
-    let made = inserts_at d vs kept (is_grow_only d.kind) (λ c k at_column counts. counter_is_int f.schema accepted t.num c d k declared at_column counts) typed types' refl 0 d.columns z ran.is ran.scope (from_start d) ran.gives in
+    let ran = on_value_goes (inserts d vs kept 0 d.columns z) (with_scope st z) go end (went_in row end (on_value (inserts d vs kept 0 d.columns z) (with_scope st z) go) goes) in
+    let made = inserts_at d vs kept (is_grow_only d.kind) (λ c k at_column counts. counter_is_int f.schema accepted t.num c d k declared at_column counts) typed kept_typed_at refl 0 d.columns z ran.is ran.scope (from_start d) ran.gives in
     let e : Effect = record { place = p; act = acts.Insert; writes = ran.is; instance = ran.scope.progress.number } in
     let fits : EffectFits f.schema e = record { table = d; declared = here; key = key; allowed = command.suits.1 d declared; writes = made.writes; order = made.order; act = all_written d ran.is made.whole } in
     let after : Row = row_with (with_writes ran.is kept) true in

@@ -1,30 +1,27 @@
 -- Choices, and turns of loops.
-use Rattle.std.proofs.Common.{◌≡◌, ◌∙◌, ℕ, suc, Bool, true, false, List, [], ◌∷◌, ◌++◌, length, map, Option, Some, None, slice_get, refl, sym, ap, subst, append-nil, append_assoc}
-use Rattle.std.specs.List.{All}
-use Rattle.std.proofs.lemmas.List.Elements.{All-push, All-cons}
+use Rattle.std.proofs.Common.{◌≡◌, ◌∙◌, ℕ, suc, Bool, true, false, List, [], ◌∷◌, ◌++◌, length, map, Option, Some, slice_get, refl, sym, ap, subst, append-nil, append_assoc}
+use Rattle.std.proofs.lemmas.List.Elements.{All-push}
 use Rattle.sv_value.specs.declared.values.Key.{Key}
 use Rattle.sv_value.specs.declared.values.Val.{Val}
 use Rattle.sv_value.specs.declared.values.Val.TheVariants as vals
 use Rattle.sv_app.specs.declared.apps.Ident.{Ident}
-use Rattle.sv_app.specs.declared.instances.Instance.{Instance}
 use Rattle.sv_app.specs.declared.names.Meaning.{Meaning}
 use Rattle.sv_app.specs.declared.names.Meaning.TheVariants.{Row as RowOf, Element}
 use Rattle.sv_app.specs.declared.places.Place.{Place}
-use Rattle.sv_app.specs.declared.schemas.Ty.{Ty}
 use Rattle.sv_app.specs.declared.schemas.Ty.TheVariants as types
 use Rattle.sv_app.specs.Fitting.{HasType}
-use Rattle.sv_app.specs.Paths.{Way, Path, Leads, Tells, test_way, on_side, block_path, command_path, after_loop}
+use Rattle.sv_app.specs.Paths.{Way, Path, Tells, test_way, on_side, block_path, after_loop}
 use Rattle.sv_app.specs.Scopes.{Scope, knowing}
 use Rattle.sv_app.specs.Slots.{item}
 use Rattle.sv_app.specs.Shaped.{AreOfTypes, Shaped}
 use Rattle.sv_app.specs.Symbols.{block_assigns, known_after}
 use Rattle.sv_app.specs.Tables.{Row}
-use Rattle.sv_app.specs.Trees.{Term, Test, Block, Choose, ForRows, ForEach}
+use Rattle.sv_app.specs.Trees.{Test, Block, Choose, ForRows, ForEach}
 use Rattle.sv_app.specs.Units.{units, loop_variables, unit_of}
-use Rattle.sv_effect.specs.Run.{Stand, Flow, Goes, with_scope, with_value, with_row, begun, beginning, closed, left_loop, instance_of}
-use Rattle.sv_effect.specs.RunValues.{Progress, Scope as Values, with_progress, Gives, truth_of}
-use Rattle.sv_trace.specs.Standing.{Frame, names_in, type_of_val, type_of_got, types_at, BlockIn, CommandIn, Sees, RowAt, Holds, way_of, Along, Passes, Makes, Turned}
-use Rattle.sv_trace.proofs.BlockLaws.{holds_with, holds_fewer, sees_fewer, along_none}
+use Rattle.sv_effect.specs.Run.{Stand, Goes, with_scope, with_value, with_row, begun, beginning, closed, left_loop, instance_of}
+use Rattle.sv_effect.specs.RunValues.{Progress, Scope as Values, Gives, truth_of}
+use Rattle.sv_trace.specs.Standing.{Frame, names_in, type_of_val, type_of_got, types_at, BlockIn, CommandIn, RowAt, Holds, way_of, Along, Passes, Makes, Turned}
+use Rattle.sv_trace.proofs.BlockLaws.{holds_with, holds_fewer}
 use Rattle.sv_trace.proofs.StatementLaws.{same_stand, sees_progress, sees_new_value, sees_row, row_types}
 use Rattle.sv_trace.proofs.TermLaws.{Tries, tries, sees_alone}
 

@@ -1,6 +1,6 @@
 -- What names mean in an accepted transaction, by their numbers: the types of its expressions.
-use Rattle.std.proofs.Common.{◌≡◌, ◌∙◌, ◌⊎◌, inl, inr, ℕ, zero, suc, ◌+◌, ◌<◌, ◌≤◌, ◌||◌, ◌&&◌, not, bytes_eq, Bool, true, false, if◌then◌else◌, List, [], ◌∷◌, ◌++◌, length, map, Option, Some, None, slice_get, refl, sym, ap, subst, arith}
-use Rattle.std.specs.List.{find, flat_map}
+use Rattle.std.proofs.Common.{◌≡◌, ◌∙◌, inl, inr, ℕ, suc, ◌<◌, ◌≤◌, bytes_eq, Bool, true, false, if◌then◌else◌, List, [], ◌∷◌, ◌++◌, map, Option, Some, None, slice_get, refl, sym, ap, subst, arith}
+use Rattle.std.specs.List.{find}
 use Rattle.std.specs.Option.{option_map, option_and_then, unwrap_or, is_none}
 use Rattle.std.proofs.lemmas.Slice.Eq.{bytes_eq-Decides}
 use Rattle.sv_value.specs.declared.spots.Spot.{Spot}
@@ -11,9 +11,7 @@ use Rattle.sv_app.specs.declared.names.Meaning.{Meaning}
 use Rattle.sv_app.specs.declared.names.Meaning.TheVariants.{Parameter, Variable as Local, Row as RowOf, Element}
 use Rattle.sv_app.specs.declared.refusals.Code.{Code}
 use Rattle.sv_app.specs.declared.refusals.Code.TheVariants.{Unknown, Typing}
-use Rattle.sv_app.specs.declared.refusals.Refusal.{Refusal}
 use Rattle.sv_app.specs.declared.schemas.Column.{Column}
-use Rattle.sv_app.specs.declared.schemas.Ty.{Ty}
 use Rattle.sv_app.specs.declared.schemas.Ty.TheVariants as types
 use Rattle.sv_app.specs.Lookups.{is_named, column_of, table_of, place_of, holds_of, column_names}
 use Rattle.sv_app.specs.Numbers.{numbered_in, columns_meant}
@@ -149,9 +147,6 @@ module _ (f : Frame) where
   pub bad_fault : (spot : Spot) (code : Code) → fault_if true spot code ≡ [] → ⊥
   bad_fault spot code e = cc
 
-  term_at : (known : List Known) (u : Option Ident) → Scope
-  term_at known u = record { schema = f.schema; known = known; updated = u }
-
   module _ (k : ℕ) (known : List Known) (u : Option Ident) (columns : List Ident) (table : ℕ) (is : AllKnown k known) (updated : UpdatedIs u columns table) where
     abbrev at : Scope
     at = record { schema = f.schema; known = known; updated = u }
@@ -231,9 +226,10 @@ module _ (f : Frame) where
     pub test_reads : (t : Test) → test_faults at t ≡ [] → numbered_test (in_update columns) t ≡ t → TestReads at t
     test_reads (Compare a r b) right own =
         let one : numbered_term (in_update columns) a ≡ a = cc in
-        let two : numbered_term (in_update columns) b ≡ b = cc in
-        ((term_is a (back_none (comparison_faults at a r b) (term_faults at a) (front_none (comparison_faults at a r b ++ term_faults at a) (term_faults at b) right)) one).reads,
-        (term_is b (back_none (comparison_faults at a r b ++ term_faults at a) (term_faults at b) right) two).reads)
+        let two : numbered_term (in_update columns) b ≡ b = cc in (
+          (term_is a (back_none (comparison_faults at a r b) (term_faults at a) (front_none (comparison_faults at a r b ++ term_faults at a) (term_faults at b) right)) one).reads,
+          (term_is b (back_none (comparison_faults at a r b ++ term_faults at a) (term_faults at b) right) two).reads,
+        )
     test_reads (Negation t) right own =
         let same : numbered_test (in_update columns) t ≡ t = cc in
         test_reads t right same

@@ -1,13 +1,11 @@
 -- The begin of a run, and its end.
-use Rattle.std.proofs.Common.{◌≡◌, ◌∙◌, ◌⊎◌, inl, inr, ℕ, zero, suc, ◌+◌, ◌<◌, ◌≤◌, List, [], ◌∷◌, ◌++◌, length, map, reverse, Option, Some, None, slice_get, refl, sym, ap, subst, arith}
+use Rattle.std.proofs.Common.{◌≡◌, ◌∙◌, inl, inr, ℕ, zero, suc, ◌+◌, ◌<◌, ◌≤◌, List, [], ◌∷◌, ◌++◌, length, map, reverse, Some, None, slice_get, refl, sym, ap, subst, arith}
 use Rattle.std.specs.FinMap.{empty, get, get-empty}
 use Rattle.std.specs.List.{All, flat_map}
 use Rattle.std.specs.Option.{option_map}
 use Rattle.std.proofs.lemmas.Grind.{reverse_onto}
-use Rattle.std.proofs.lemmas.List.{append-nil}
 use Rattle.std.proofs.lemmas.List.Elements.{All-nil, All-cons}
 use Rattle.std.proofs.lemmas.Option.{slice_get_within, slice_get-map}
-use Rattle.sv_value.specs.declared.values.Val.{Val}
 use Rattle.sv_app.specs.declared.apps.Ident.{Ident}
 use Rattle.sv_app.specs.declared.names.Declared.{Declared}
 use Rattle.sv_app.specs.declared.names.Known.{Known}
@@ -19,24 +17,23 @@ use Rattle.sv_app.specs.declared.requests.Arg.TheVariants as args
 use Rattle.sv_app.specs.declared.schemas.Ty.{Ty}
 use Rattle.sv_app.specs.declared.schemas.Ty.TheVariants as types
 use Rattle.sv_app.specs.Fitting.{ArgFits, ArgsFit}
-use Rattle.sv_app.specs.Paths.{Names, block_path, parameter_types, block_names}
-use Rattle.sv_app.specs.Scopes.{Scope, parameter, opening}
+use Rattle.sv_app.specs.Paths.{Names, parameter_types}
+use Rattle.sv_app.specs.Scopes.{parameter, opening}
 use Rattle.sv_app.specs.Shaped.{Shaped}
 use Rattle.sv_app.specs.Slots.{item}
 use Rattle.sv_app.specs.Statements.{block_statements}
 use Rattle.sv_app.specs.Tables.{Row, Tables, place_cmp}
-use Rattle.sv_app.specs.Trees.{Transaction, Block}
+use Rattle.sv_app.specs.Trees.{Transaction}
 use Rattle.sv_app.specs.TxnNames.{plain_name, declared_by, declares}
 use Rattle.sv_app.specs.TxnNames as txn_names
 use Rattle.sv_app.specs.TxnNumbers.{numbered_name, numbered_block, numbered_parameter, numbered_txn}
 use Rattle.sv_app.specs.TxnTyping.{block_faults, txn_faults}
 use Rattle.sv_app.specs.Typing.{repeats}
-use Rattle.sv_app.specs.Units.{block_loops}
 use Rattle.sv_app.proofs.AcceptedLaws.{front_none, back_none, each_none}
-use Rattle.sv_effect.specs.Run.{Stand, argument, beginning, instance_of, started}
-use Rattle.sv_effect.specs.RunValues.{nothing, Scope as Values}
-use Rattle.sv_trace.specs.Standing.{Frame, IsFrame, names_in, type_of_val, type_of_got, types_at, IsValue, IsRow, Means, BlockIn, Sees, RowIs, EffectFits, Holds, Along, Passes}
-use Rattle.sv_trace.proofs.BodyLaws.{LoopIs, block_suits}
+use Rattle.sv_effect.specs.Run.{Stand, argument, instance_of, started}
+use Rattle.sv_effect.specs.RunValues.{nothing}
+use Rattle.sv_trace.specs.Standing.{Frame, IsFrame, names_in, type_of_val, type_of_got, types_at, IsValue, IsRow, Means, BlockIn, Sees, RowIs, EffectFits, Holds, Passes}
+use Rattle.sv_trace.proofs.BodyLaws.{block_suits}
 use Rattle.sv_trace.proofs.DeclareLaws.{block_declares, block_lists, after, HereFrom, here_split, here_number, agree_same, block_stays}
 use Rattle.sv_trace.proofs.LoopLaws.{whole_shaped}
 use Rattle.sv_trace.proofs.NamingLaws.{all, Agree, KnownIs, AllKnown}
@@ -146,12 +143,14 @@ module _ (f : Frame) (is : IsFrame f) where
       slice_left first (flat_map declared_by (block_statements f.txn.body)) n (plain_name p.0) (slice_get-map (λ (x : Ident × Ty). plain_name x.0) f.txn.params n ∙ ap (λ o. option_map (λ (x : Ident × Ty). plain_name x.0) o) at) in
       let number : p.0.num ≡ n = here_number f once n (plain_name p.0) declared own in
       let within : n < length first = slice_get_within first n (plain_name p.0) (slice_get-map (λ (x : Ident × Ty). plain_name x.0) f.txn.params n ∙ ap (λ o. option_map (λ (x : Ident × Ty). plain_name x.0) o) at) in
-      let below : p.0.num < after 0 first = omega (arith, within, number, after_length 0 first) in
-      (number, record {
-        own = own;
-        below = below;
-        meaning = sym (agree p.0.num below).0 ∙ ap (item types.Int (parameter_types f.txn.params)) number ∙ parameter_type f.txn.params n p at;
-      })
+      let below : p.0.num < after 0 first = omega (arith, within, number, after_length 0 first) in (
+        number,
+        record {
+          own = own;
+          below = below;
+          meaning = sym (agree p.0.num below).0 ∙ ap (item types.Int (parameter_types f.txn.params)) number ∙ parameter_type f.txn.params n p at;
+        },
+      )
 
   known : AllKnown f (after 0 first) (reverse (map parameter f.txn.params))
   known = all_known f (after 0 first) (reverse (map parameter f.txn.params)) (each_reversed (KnownIs f (after 0 first)) parameter f.txn.params (each_at (λ p. KnownIs f (after 0 first) (parameter p)) f.txn.params (λ n p at. (param_at n p at).1)))

@@ -1,7 +1,6 @@
 -- The meaning of a run keeps what holds: by its statements, its blocks and the turns of its loops.
-use Rattle.std.proofs.Common.{◌≡◌, ◌∙◌, ℕ, suc, if◌then◌else◌, Bool, true, false, List, [], ◌∷◌, map, Option, Some, None, slice_get, refl, sym, ap, subst, arith}
+use Rattle.std.proofs.Common.{◌≡◌, ℕ, if◌then◌else◌, Bool, true, false, List, [], ◌∷◌, map, Option, Some, None, slice_get, refl, sym, subst, arith}
 use Rattle.std.specs.FinMap.{get}
-use Rattle.std.specs.List.{All}
 use Rattle.std.proofs.lemmas.List.Elements.{All-nil}
 use Rattle.sv_value.specs.declared.values.Key.{Key}
 use Rattle.sv_value.specs.declared.values.Val.{Val}
@@ -20,68 +19,28 @@ use Rattle.sv_app.specs.Tables.{Row}
 use Rattle.sv_app.specs.Trees.{Term, Test, Command, Declare, Assign, Fetch, Choose, ForRows, ForEach, Insert, Update, Remove, Abort, Reply, Block, Finish, Then}
 use Rattle.sv_app.specs.TxnTyping.{behind}
 use Rattle.sv_app.specs.Units.{loop_variables, unit_of}
-use Rattle.sv_effect.specs.declared.outcomes.Outcome.{Outcome}
 use Rattle.sv_effect.specs.declared.outcomes.Outcome.TheVariants as outcomes
-use Rattle.sv_effect.specs.Run.{
-  Setting,
-  Stand,
-  Flow,
-  Goes,
-  Ends,
-  then_do,
-  with_scope,
-  on_value,
-  on_truth,
-  on_present,
-  on_table,
-  on_keys,
-  only,
-  with_row,
-  with_value,
-  place_of_row,
-  fetched,
-  inserted,
-  updated,
-  removed,
-  meeting,
-  present_keys,
-  turns,
-  begun,
-  closed,
-  instance,
-  if_present,
-  row_turn,
-  item_turn,
-  left_loop,
-  items_of,
-  run_command,
-  run_block,
-  body_of,
-  run_body,
-  run,
-  started,
-  result_of,
-}
+use Rattle.sv_effect.specs.Run.{Setting, Stand, Flow, Goes, Ends, then_do, with_scope, on_truth, on_present, on_table, on_keys, only, with_row, with_value, place_of_row, fetched, inserted, updated, removed, meeting, present_keys, turns, begun, closed, instance, if_present, row_turn, item_turn, left_loop, items_of, run_command, run_block, body_of, run_body, run, started, result_of}
 use Rattle.sv_effect.specs.RunChanges.{key_in}
-use Rattle.sv_effect.specs.RunValues.{Scope as Values, Evaluated, Leaves, Gives, value_of, values_of, truth_of}
+use Rattle.sv_effect.specs.RunValues.{Evaluated, Leaves, Gives, values_of, truth_of}
 use Rattle.sv_trace.specs.Laws.{IsShapedRun, RunsAreShaped}
-use Rattle.sv_trace.specs.Standing.{Frame, IsFrame, BlockIn, CommandIn, RowAt, EffectFits, Holds, Passes, Makes, Turned}
+use Rattle.sv_trace.specs.Standing.{Frame, IsFrame, BlockIn, CommandIn, EffectFits, Holds, Passes, Makes, Turned}
 use Rattle.sv_trace.proofs.BlockLaws.{first_in, rest_in, passes_finish, passes_then}
 use Rattle.sv_trace.proofs.ChangeLaws.{own_rows_fit, row_is, makes_remove}
 use Rattle.sv_trace.proofs.InsertLaws.{makes_insert}
 use Rattle.sv_trace.proofs.LoopLaws.{yes_in, no_in, test_holds, makes_yes, makes_no, rows_in, items_in, row_begins, item_begins, row_turn_closes, item_turn_closes, turned_none, turned_more, makes_rows, makes_items}
 use Rattle.sv_trace.proofs.OpeningLaws.{body_in, begins_on, completes_on}
-use Rattle.sv_trace.proofs.StatementLaws.{same_stand, Went_on, on_value_goes, makes_declare, makes_assign, makes_fetch, makes_reply}
+use Rattle.sv_trace.proofs.StatementLaws.{same_stand, WentOn, on_value_goes, makes_declare, makes_assign, makes_fetch, makes_reply}
 use Rattle.sv_trace.proofs.UnitLaws.{Each}
 use Rattle.sv_trace.proofs.UpdateLaws.{makes_update}
 
 -- how a run went on
-record Went_through (first : Flow) (go : Stand → Flow) (end : Stand) : Type 0 where
+record WentThrough (first : Flow) (go : Stand → Flow) (end : Stand) : Type 0 where
   mid : Stand
   first_is : first ≡ Goes mid
   rest : go mid ≡ Goes end
 
-goes_on : (first : Flow) (go : Stand → Flow) (end : Stand) → then_do first go ≡ Goes end → Went_through first go end
+goes_on : (first : Flow) (go : Stand → Flow) (end : Stand) → then_do first go ≡ Goes end → WentThrough first go end
 goes_on (Goes st) go end is = record { mid = st; first_is = refl; rest = is }
 goes_on (Ends o) go end is = absurd cc
 
@@ -204,7 +163,7 @@ module _ (f : Frame) where
       let p : Place = place_of_row t ran.is in
       let row = present (get st.tables p) (fetched r.num (with_scope st ran.scope)) end ran.goes in
       subst (Makes f at (Fetch r t k) st) (same_stand (with_scope st (with_row r.num row.row.values ran.scope)) end row.rest)
-          (makes_fetch f at r t k st ran.is ran.scope row.row command holds ran.gives (own_rows_fit f at st p (Some row.row) holds row.there))
+      (makes_fetch f at r t k st ran.is ran.scope row.row command holds ran.gives (own_rows_fit f at st p (Some row.row) holds row.there))
 
   of_remove : (at : Scope) (t : Ident) (k : List Term) (st end : Stand) → CommandIn f at (Remove t k) → Holds f at st → run_command setting (Remove t k) st ≡ Goes end → Makes f at (Remove t k) st end
   of_remove at t k st end command holds is =
@@ -216,7 +175,7 @@ module _ (f : Frame) where
   of_update : (at : Scope) (t : Ident) (k : List Term) (sets : List (Ident × Term)) (st end : Stand) → CommandIn f at (Update t k sets) → Holds f at st → run_command setting (Update t k sets) st ≡ Goes end → Makes f at (Update t k sets) st end
   of_update at t k sets st end command holds is = by_table (slice_get f.schema t.num) refl ran.goes
     where
-      ran : Went_on (values_of k st.scope) st (λ vs z. on_table (slice_get f.schema t.num) (λ d. on_present (get z.tables (place_of_row t vs)) (updated d (place_of_row t vs) sets z))) end
+      ran : WentOn (values_of k st.scope) st (λ vs z. on_table (slice_get f.schema t.num) (λ d. on_present (get z.tables (place_of_row t vs)) (updated d (place_of_row t vs) sets z))) end
       ran = on_value_goes (values_of k st.scope) st (λ vs z. on_table (slice_get f.schema t.num) (λ d. on_present (get z.tables (place_of_row t vs)) (updated d (place_of_row t vs) sets z))) end is
 
       p : Place
@@ -234,7 +193,7 @@ module _ (f : Frame) where
       go : List Val → Stand → Flow
       go vs z = on_table (slice_get f.schema t.num) (λ d. let p : Place = record { table = t.num; key = key_in d.key vs } in inserted d p vs (get z.tables p) z)
 
-      ran : Went_on (values_of es st.scope) st go end
+      ran : WentOn (values_of es st.scope) st go end
       ran = on_value_goes (values_of es st.scope) st go end is
 
       by_table : (o : Option Declaration) → slice_get f.schema t.num ≡ o

@@ -1,5 +1,5 @@
 -- What names of an accepted schema mean, by their numbers; keys and zeros of its tables.
-use Rattle.std.proofs.Common.{◌≡◌, ◌≢◌, ◌∙◌, ℕ, zero, suc, ◌+◌, ◌<◌, ◌≤◌, ◌==◌, Bool, true, false, if◌then◌else◌, List, [], ◌∷◌, ◌++◌, length, map, Option, Some, None, slice_get, refl, sym, ap, subst, arith}
+use Rattle.std.proofs.Common.{◌≡◌, ◌≢◌, ◌∙◌, ℕ, zero, suc, ◌+◌, ◌≤◌, ◌==◌, Bool, true, false, if◌then◌else◌, List, [], ◌∷◌, ◌++◌, length, map, Option, Some, None, slice_get, refl, sym, ap, subst, arith}
 use Rattle.std.specs.Cmp.Lexicographic.{nat_list_eq_equiv}
 use Rattle.std.specs.List.{find, flat_map}
 use Rattle.std.specs.Option.{option_map, unwrap_or, is_none}
@@ -7,7 +7,6 @@ use Rattle.std.proofs.lemmas.Option.{slice_get-map}
 use Rattle.sv_value.specs.declared.values.Key.{Key}
 use Rattle.sv_value.specs.declared.values.Val.{Val}
 use Rattle.sv_app.specs.declared.apps.Ident.{Ident}
-use Rattle.sv_app.specs.declared.gots.Got.{Got}
 use Rattle.sv_app.specs.declared.refusals.Code.TheVariants.{Unknown, Twice, Typing}
 use Rattle.sv_app.specs.declared.refusals.Refusal.{Refusal}
 use Rattle.sv_app.specs.declared.schemas.Column.{Column}
@@ -17,11 +16,10 @@ use Rattle.sv_app.specs.Accepted.{AcceptedSchema}
 use Rattle.sv_app.specs.Conditions.{KeepsTable}
 use Rattle.sv_app.specs.Fitting.{HasType}
 use Rattle.sv_app.specs.Lookups.{is_named, column_of, table_of, place_of, table_names, column_names}
-use Rattle.sv_app.specs.Numbers.{numbered, numbered_in, numbered_table}
-use Rattle.sv_app.specs.Paths.{type_in}
+use Rattle.sv_app.specs.Numbers.{numbered_in, numbered_table}
 use Rattle.sv_app.specs.Schema.{Declaration}
 use Rattle.sv_app.specs.Slots.{item}
-use Rattle.sv_app.specs.Typing.{fault_if, no_key, another_key, repeats, no_column, key_faults, column_faults, rule_faults, table_faults}
+use Rattle.sv_app.specs.Typing.{fault_if, no_key, another_key, repeats, no_column, key_faults, column_faults, rule_faults}
 use Rattle.sv_app.proofs.AcceptedLaws.{all_at, front_none, back_none, each_none, no_fault, no_lists, table_right, columns_right}
 use Rattle.sv_effect.specs.BareTables.{got_of}
 use Rattle.sv_effect.specs.Fits.{KeyFits}

@@ -1,42 +1,38 @@
 -- Declarations, assignments, reads of rows and replies.
-use Rattle.std.proofs.Common.{◌≡◌, ◌∙◌, ◌⊎◌, inl, inr, ℕ, ◌<◌, ◌≤◌, nat_lt, if◌then◌else◌, Bool, true, false, List, [], ◌∷◌, ◌++◌, length, map, Option, Some, None, slice_get, refl, sym, ap, subst, append-nil, arith}
-use Rattle.std.proofs.lemmas.Bool.Decides.{nat_tests}
+use Rattle.std.proofs.Common.{◌≡◌, ◌∙◌, ◌⊎◌, inl, inr, ℕ, nat_lt, if◌then◌else◌, Bool, true, false, List, [], ◌∷◌, ◌++◌, length, map, Some, None, refl, sym, ap, subst, append-nil}
 use Rattle.sv_value.specs.declared.values.Val.{Val}
 use Rattle.sv_app.specs.declared.apps.Ident.{Ident}
 use Rattle.sv_app.specs.declared.gots.Got.{Got}
-use Rattle.sv_app.specs.declared.names.Known.{Known}
 use Rattle.sv_app.specs.declared.names.Meaning.{Meaning}
-use Rattle.sv_app.specs.declared.names.Meaning.TheVariants.{Parameter, Variable as Local, Row as RowOf, Element}
+use Rattle.sv_app.specs.declared.names.Meaning.TheVariants.{Variable as Local, Row as RowOf}
 use Rattle.sv_app.specs.declared.places.Place.{Place}
-use Rattle.sv_app.specs.declared.schemas.Ty.{Ty}
 use Rattle.sv_app.specs.declared.schemas.Ty.TheVariants as types
-use Rattle.sv_app.specs.Paths.{Way, Path, Leads, columns_at, type_of, term_way, terms_way, command_path, formed}
+use Rattle.sv_app.specs.Paths.{Way, Path, Leads, columns_at, type_of, term_way, terms_way, formed}
 use Rattle.sv_app.specs.Schema.{Declaration}
 use Rattle.sv_app.specs.Scopes.{Scope, knowing}
 use Rattle.sv_app.specs.Slots.{item, with_item}
 use Rattle.sv_app.specs.Tables.{Row}
 use Rattle.sv_app.specs.Trees.{Term, Declare, Assign, Fetch, Reply}
 use Rattle.sv_app.specs.TxnTyping.{declared_type}
-use Rattle.sv_effect.specs.declared.outcomes.Outcome.{Outcome}
 use Rattle.sv_effect.specs.declared.outcomes.Outcome.TheVariants as outcomes
 use Rattle.sv_effect.specs.Run.{Setting, Stand, Flow, Goes, Ends, with_scope, on_value, with_value, is_formed, assigned, with_row, place_of_row, replied, run_command}
 use Rattle.sv_effect.specs.RunValues.{nothing, Progress, Scope as Values, with_progress, Evaluated, Leaves, Gives, value_of, values_of}
 use Rattle.sv_trace.specs.Standing.{Frame, names_in, type_of_val, type_of_got, types_at, IsValue, IsRow, Means, Reads, CommandIn, Sees, RowIs, RowAt, Holds, way_of, Along, Makes}
 use Rattle.sv_trace.proofs.BlockLaws.{holds_with}
 use Rattle.sv_trace.proofs.SlotLaws.{at_items}
-use Rattle.sv_trace.proofs.TermLaws.{Went, went_to, sees_after, no_old, Evaluates, evaluates, AllEvaluate, all_evaluate}
+use Rattle.sv_trace.proofs.TermLaws.{Went, sees_after, no_old, evaluates, all_evaluate}
 
 pub same_stand : (a b : Stand) → Goes a ≡ Goes b → a ≡ b
 same_stand a b e = cc
 
 -- a value was given, and the run went on with it
-pub record Went_on {A : Type 0} (value : Evaluated A) (st : Stand) (go : A → Stand → Flow) (end : Stand) : Type 0 where
+pub record WentOn {A : Type 0} (value : Evaluated A) (st : Stand) (go : A → Stand → Flow) (end : Stand) : Type 0 where
   pub is : A
   pub scope : Values
   pub gives : value ≡ Gives is scope
   pub goes : go is (with_scope st scope) ≡ Goes end
 
-pub on_value_goes : {A : Type 0} (value : Evaluated A) (st : Stand) (go : A → Stand → Flow) (end : Stand) → on_value value st go ≡ Goes end → Went_on value st go end
+pub on_value_goes : {A : Type 0} (value : Evaluated A) (st : Stand) (go : A → Stand → Flow) (end : Stand) → on_value value st go ≡ Goes end → WentOn value st go end
 on_value_goes Leaves st go end e = absurd cc
 on_value_goes (Gives v s) st go end e = record { is = v; scope = s; gives = refl; goes = e }
 

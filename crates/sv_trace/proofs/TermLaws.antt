@@ -1,5 +1,5 @@
 -- An expression gives a value of its type and brings in the symbols of its way; a condition takes the choices of its way.
-use Rattle.std.proofs.Common.{◌≡◌, ℕ, ℤ, pos, ◌+ℤ◌, ◌-ℤ◌, ◌*ℤ◌, neg_ℤ, ◌==◌, ◌&&◌, ◌||◌, not, if◌then◌else◌, Bool, true, false, List, [], ◌∷◌, ◌++◌, map, Option, Some, None, slice_get, unwrap_or, refl, sym, ap, subst, ◌∙◌, append_assoc, append-nil, inl, inr}
+use Rattle.std.proofs.Common.{◌≡◌, ℕ, ℤ, pos, ◌+ℤ◌, ◌-ℤ◌, ◌*ℤ◌, neg_ℤ, ◌==◌, ◌&&◌, ◌||◌, not, if◌then◌else◌, Bool, true, false, List, [], ◌∷◌, ◌++◌, map, Option, Some, None, slice_get, unwrap_or, refl, sym, ap, subst, ◌∙◌, append_assoc}
 use Rattle.std.specs.List.{list_any}
 use Rattle.std.specs.Option.{option_map}
 use Rattle.std.proofs.lemmas.List.{map-append}
@@ -14,14 +14,13 @@ use Rattle.sv_app.specs.declared.instances.Source.TheVariants as sources
 use Rattle.sv_app.specs.declared.schemas.Column.{Column}
 use Rattle.sv_app.specs.declared.schemas.Ty.{Ty}
 use Rattle.sv_app.specs.declared.schemas.Ty.TheVariants as types
-use Rattle.sv_app.specs.declared.txns.Rel.{Rel}
 use Rattle.sv_app.specs.Paths.{Way, Tested, Short, Tells, then_tested, next_choice, term_way, terms_way, test_way, type_of, column_type, type_in, columns_at}
 use Rattle.sv_app.specs.Paths as paths
 use Rattle.sv_app.specs.Scopes.{Scope}
 use Rattle.sv_app.specs.Slots.{item}
 use Rattle.sv_app.specs.Symbols.{is_known, is_factor}
 use Rattle.sv_app.specs.Trees.{Term, Number, Words, Variable, Field, Old, Minus, Sum, Difference, Product, Test, Compare, Negation, Both, Either}
-use Rattle.sv_effect.specs.RunValues.{nothing, Progress, Scope as Values, with_progress, narrow, Evaluated, Leaves, Gives, then_value, integer, val_of, column, as_read, read_variable, read_column, read_old, negated, added, subtracted, multiplied, compared, chosen, relates, value_of, values_of, truth_of, put, brought, brought_old}
+use Rattle.sv_effect.specs.RunValues.{nothing, Progress, Scope as Values, with_progress, narrow, Evaluated, Leaves, Gives, then_value, integer, val_of, column, as_read, negated, added, subtracted, multiplied, compared, chosen, relates, value_of, values_of, truth_of, put, brought, brought_old}
 use Rattle.sv_effect.specs.TablesOfCut.{number_in}
 use Rattle.sv_trace.specs.Standing.{Frame, names_in, type_of_val, type_of_got, types_at, Reads, AllRead, TestReads, Sees, way_of}
 
@@ -133,8 +132,8 @@ integer_scope None s v z e = absurd cc
 integer_scope (Some n) s v z e = same_scope (Int n) v s z e
 
 -- a column of a row of these types
-pub type_at : (types' : List Ty) (row : List Got) (c : ℕ) → map type_of_got row ≡ types' → type_of_got (column row c) ≡ unwrap_or (slice_get types' c) types.Int
-type_at types' row c e = by_slot (slice_get row c) refl ∙ ap (λ o. unwrap_or o types.Int) (sym (slice_get-map type_of_got row c) ∙ ap (λ l. slice_get l c) e)
+pub type_at : (tys : List Ty) (row : List Got) (c : ℕ) → map type_of_got row ≡ tys → type_of_got (column row c) ≡ unwrap_or (slice_get tys c) types.Int
+type_at tys row c e = by_slot (slice_get row c) refl ∙ ap (λ o. unwrap_or o types.Int) (sym (slice_get-map type_of_got row c) ∙ ap (λ l. slice_get l c) e)
   where
     by_slot : (o : Option Got) → slice_get row c ≡ o → type_of_got (unwrap_or (slice_get row c) (gots.Num (pos 0))) ≡ unwrap_or (option_map type_of_got (slice_get row c)) types.Int
     by_slot None e = rw (e) refl
@@ -200,7 +199,7 @@ evaluates f at table (Field r c spot) s v z sees old reads is =
     let row : List Got = item [] s.rows r.num in
     let of_column : type_of_got (column row c.num) ≡ column_type f.schema t c.num = type_at (types_at f.schema t) row c.num (sees.rows r.num reads) ∙ type_of_column (columns_at (slice_get f.schema t)) c.num in
     read f table (Field r c spot) (column row c.num) (λ w. brought (sources.Column r.num c.num) w s.progress) s v z of_column
-        (λ w of_got. went_brought (sources.Column r.num c.num) w (column_type f.schema t c.num) s (of_got ∙ of_column)) is
+    (λ w of_got. went_brought (sources.Column r.num c.num) w (column_type f.schema t c.num) s (of_got ∙ of_column)) is
 evaluates f at table (Old c spot) s v z sees old reads is =
     let of_column : type_of_got (column s.old c.num) ≡ column_type f.schema table c.num = type_at (types_at f.schema table) s.old c.num (old reads) ∙ type_of_column (columns_at (slice_get f.schema table)) c.num in
     read f table (Old c spot) (column s.old c.num) (λ w. brought_old c.num w s.progress) s v z of_column (λ w of_got. went_old c.num w (column_type f.schema table c.num) s (of_got ∙ of_column)) is
@@ -235,7 +234,7 @@ evaluates f at table (Product a b spot) s v z sees old reads is =
     let first = evaluates f at table a s g.value g.scope sees old reads.0 g.first in
     let second = evaluates f at table b g.scope h.value h.scope (sees_after f at (term_way f.schema (names_in f) table a) s g.scope sees first.went) (old_after f at table (term_way f.schema (names_in f) table a) s g.scope old first.went) reads.1 h.first in
     let made = multiplies (λ w. term_way f.schema (names_in f) table b (term_way f.schema (names_in f) table a w)) s h.scope v z (narrow (number_in g.value *ℤ number_in h.value)) factor
-        (went_then (term_way f.schema (names_in f) table a) (term_way f.schema (names_in f) table b) s g.scope h.scope first.went second.went) h.last in
+    (went_then (term_way f.schema (names_in f) table a) (term_way f.schema (names_in f) table b) s g.scope h.scope first.went second.went) h.last in
     record { type = made.type; went = made.went }
 
 -- the values of expressions, from left to right

@@ -1,15 +1,13 @@
 -- Each loop of a transaction is the unit of its variable's number.
-use Rattle.std.proofs.Common.{◌≡◌, ◌∙◌, ℕ, zero, suc, ◌<◌, ◌≤◌, ◌==◌, Bool, true, false, if◌then◌else◌, List, [], ◌∷◌, ◌++◌, map, Option, Some, None, slice_get, refl, sym, ap, subst, arith, append_assoc, append-nil}
-use Rattle.sv_app.specs.declared.apps.Ident.{Ident}
-use Rattle.sv_app.specs.declared.names.Declared.{Declared}
-use Rattle.sv_app.specs.TxnNames.{plain_name, row_name, declares, names_of}
+use Rattle.std.proofs.Common.{◌≡◌, ◌∙◌, ℕ, suc, ◌≤◌, ◌==◌, true, false, if◌then◌else◌, List, [], ◌∷◌, ◌++◌, map, Some, slice_get, refl, sym, ap, subst, arith, append_assoc, append-nil}
+use Rattle.sv_app.specs.TxnNames.{plain_name, row_name, names_of}
 use Rattle.sv_app.specs.TxnNumbers.{numbered_name, numbered_command, numbered_block}
 use Rattle.sv_app.specs.Trees.{Command, Declare, Assign, Fetch, Choose, ForRows, ForEach, Insert, Update, Remove, Abort, Reply, Block, Finish, Then}
 use Rattle.sv_app.specs.Typing.{repeats}
 use Rattle.sv_app.specs.Units.{Loop, command_loops, block_loops, units, loop_variables, unit_of}
 use Rattle.sv_effect.proofs.TestLaws.{same_test, other_test}
 use Rattle.sv_trace.specs.Standing.{Frame}
-use Rattle.sv_trace.proofs.DeclareLaws.{command_declares, block_declares, after, after_append, not_before, HereFrom, here_split, here_number}
+use Rattle.sv_trace.proofs.DeclareLaws.{command_declares, block_declares, after, after_append, HereFrom, here_split, here_number}
 use Rattle.sv_trace.proofs.NamingLaws.{all}
 
 abbrev pub Each : {A : Type 0} → (A → Type 0) → List A → Type 0
@@ -49,9 +47,10 @@ found_behind body first ls (l ∷ more) above each =
 all_found : (k : ℕ) (body : Block) (ls : List Loop) → LoopsFrom k ls → Each (IsFound body ls) ls
 all_found k body [] from = tt
 all_found k body (l ∷ ls) from =
-    let here : (l.variable == l.variable) ≡ true = same_test l.variable l.variable refl in
-    (ap (λ b. slice_get (body ∷ l.body ∷ map (λ x. x.body) ls) (if b then 1 else suc (unit_of (map (λ x. x.variable) ls) l.variable))) here,
-    found_behind body l ls ls (loops_above (suc l.variable) ls from.1) (all_found (suc l.variable) l.body ls from.1))
+    let here : (l.variable == l.variable) ≡ true = same_test l.variable l.variable refl in (
+      ap (λ b. slice_get (body ∷ l.body ∷ map (λ x. x.body) ls) (if b then 1 else suc (unit_of (map (λ x. x.variable) ls) l.variable))) here,
+      found_behind body l ls ls (loops_above (suc l.variable) ls from.1) (all_found (suc l.variable) l.body ls from.1),
+    )
 
 module _ (f : Frame) (once : repeats (names_of f.txn) ≡ []) where
   mutual

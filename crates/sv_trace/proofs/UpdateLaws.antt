@@ -1,14 +1,12 @@
 -- Updates: each set is of its column's type, and the writes fit the table.
-use Rattle.std.proofs.Common.{◌≡◌, ◌≢◌, ◌∙◌, ℕ, ℤ, suc, ◌-ℤ◌, Bool, true, false, List, [], ◌∷◌, ◌++◌, map, Option, Some, None, slice_get, refl, sym, ap, subst}
+use Rattle.std.proofs.Common.{◌≡◌, ◌∙◌, ℕ, ℤ, ◌-ℤ◌, true, List, [], ◌∷◌, map, Option, Some, None, slice_get, refl, sym, ap, subst}
 use Rattle.sv_value.specs.declared.values.Val.{Val}
 use Rattle.sv_app.specs.declared.acts.Act.TheVariants as acts
 use Rattle.sv_app.specs.declared.apps.Ident.{Ident}
-use Rattle.sv_app.specs.declared.gots.Got.{Got}
 use Rattle.sv_app.specs.declared.places.Place.{Place}
 use Rattle.sv_app.specs.declared.schemas.Column.{Column}
 use Rattle.sv_app.specs.declared.schemas.Merge.{Merge}
 use Rattle.sv_app.specs.declared.schemas.Merge.TheVariants as merges
-use Rattle.sv_app.specs.declared.schemas.Ty.{Ty}
 use Rattle.sv_app.specs.declared.schemas.Ty.TheVariants as types
 use Rattle.sv_app.specs.Accepted.{AcceptedSchema}
 use Rattle.sv_app.specs.Paths.{Way, Path, Leads, columns_at, column_type, type_in, type_of, term_way, terms_way, sets_way, now_way}
@@ -24,11 +22,11 @@ use Rattle.sv_effect.specs.Fits.{WriteFits, KeyFits}
 use Rattle.sv_effect.specs.RowChange.{key_values}
 use Rattle.sv_effect.specs.Run.{Stand, Flow, Goes, with_scope, place_of_row, changed, row_with, updating, updated}
 use Rattle.sv_effect.specs.RunChanges.{Effect, with_writes, step, delta_to, set_of, merge_in, merge_of, sets_made, in_order}
-use Rattle.sv_effect.specs.RunValues.{Progress, Scope as Values, with_progress, narrow, Gives, then_value, read_old, value_of, values_of}
+use Rattle.sv_effect.specs.RunValues.{Scope as Values, narrow, Gives, then_value, read_old, value_of, values_of}
 use Rattle.sv_effect.specs.TablesOfCut.{number_in}
-use Rattle.sv_trace.specs.Standing.{Frame, names_in, type_of_val, type_of_got, types_at, CommandIn, SetsSuit, behind_set, Sees, RowIs, RowAt, EffectFits, Holds, Along, Makes, way_of}
-use Rattle.sv_trace.proofs.ChangeLaws.{Changes, changes}
-use Rattle.sv_trace.proofs.StatementLaws.{on_value_goes, along_went, row_types, went_holds, sees_progress}
+use Rattle.sv_trace.specs.Standing.{Frame, names_in, type_of_val, type_of_got, CommandIn, SetsSuit, behind_set, Sees, RowIs, RowAt, EffectFits, Holds, Along, Makes}
+use Rattle.sv_trace.proofs.ChangeLaws.{changes}
+use Rattle.sv_trace.proofs.StatementLaws.{on_value_goes, along_went, row_types}
 use Rattle.sv_trace.proofs.BlockLaws.{holds_with}
 use Rattle.sv_trace.proofs.TermLaws.{Went, went_none, went_then, went_to, sees_after, old_after, OldIs, then_gives, same_value, same_scope, evaluates, all_evaluate}
 use Rattle.sv_trace.proofs.WriteLaws.{has_type, Suited, from_start, ordered_writes, ordered, written_types}
