@@ -1,6 +1,7 @@
 pub mod KeepLaws
 pub mod KeyLaws
 pub mod LaidLaws
+pub mod LimitLaws
 pub mod LookLaws
 pub mod LoopLaws
 pub mod MeetLaws

@@ -19,7 +19,7 @@ use Rattle.sv_effect.specs.RunValues.{Evaluated, Leaves, Gives}
 use Rattle.sv_interp.specs.declared.scopes.Progress.{Progress}
 use Rattle.sv_interp.specs.declared.scopes.Scope.{Scope}
 use Rattle.sv_interp.specs.declared.states.OwnRow.{OwnRow}
-use Rattle.sv_interp.specs.declared.states.Setting.{Setting}
+use Rattle.sv_interp.specs.declared.settings.Setting.{Setting}
 use Rattle.sv_interp.specs.declared.states.State.{State}
 
 abbrev pub progress_of : Progress → values.Progress

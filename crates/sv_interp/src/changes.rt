@@ -17,16 +17,15 @@ use sv_effect::{Outcome, RowEffect, Write};
 use sv_value::{List, NoMemory, Val};
 
 /// The writes, as a change carries them.
-fn carried(writes: &[(u16, Write)]) -> Result<ArrayVec<(u16, Write), 16>, NoMemory>
-    ensures { IfOk result (λ carried. carried.items ≡ writes.now) }
+fn carried(writes: &[(u16, Write)]) -> ArrayVec<(u16, Write), 16>
+    requires { length writes.now ≤ 16 }
+    ensures { result.items ≡ writes.now }
 {
     let mut carried = ArrayVec::new();
     for write in writes {
-        if carried.try_push(*write).is_err() {
-            return Err(NoMemory);
-        }
+        carried.push(*write);
     }
-    Ok(carried)
+    carried
 }
 
 /// Makes a change that leaves this row; the 65th ends the run.
@@ -37,6 +36,7 @@ fn change(
     writes: &[(u16, Write)],
     row: OwnRow,
 ) -> Result<Option<Outcome>, NoMemory>
+    requires { length writes.now ≤ 16 }
     ensures { IfOk result (λ end. (t : Tables) → changed (record { place = place.now; act = act; writes = writes.now; instance = state.old.scope.progress.number }) (own_row row) (stand t state.old) ≡ flow_of end (stand t state.new)) }
 {
     if state.effects.len() >= 64 {
@@ -46,7 +46,7 @@ fn change(
         table: place.table,
         key: place.key,
         act,
-        writes: carried(writes)?,
+        writes: carried(writes),
         instance: state.scope.progress.number,
     };
     state.effects.push(effect)?;
@@ -72,6 +72,7 @@ pub fn update_row(
     row: OwnRow,
     state: &mut State,
 ) -> Result<Option<Outcome>, NoMemory>
+    requires { length (declaration_of table.now).columns ≤ 16 }
     ensures { IfOk result (λ end. (t : Tables) → updated (declaration_of table.now) place.now (sets_of sets.now) (stand t state.old) (own_row row) ≡ flow_of end (stand t state.new)) }
 {
     state.start_update(alloc, copy_values(alloc, row.values.items())?);
@@ -94,6 +95,7 @@ fn kept_values(
     place: &Place,
     row: Option<OwnRow>,
 ) -> Result<List<Got>, NoMemory>
+    requires { length (declaration_of table.now).columns ≤ 16 }
     ensures { IfOk result (λ kept. kept ≡ kept_values (declaration_of table.now) place.now.key (own_rows row)) }
 {
     match row {
@@ -120,6 +122,7 @@ pub fn insert_row(
     row: Option<OwnRow>,
     state: &mut State,
 ) -> Result<Option<Outcome>, NoMemory>
+    requires { length (declaration_of table.now).columns ≤ 16 }
     ensures { IfOk result (λ end. (t : Tables) → inserted (declaration_of table.now) place.now vals.now (own_rows row) (stand t state.old) ≡ flow_of end (stand t state.new)) }
 {
     if stands(&row) {

@@ -1,4 +1,4 @@
-ghost use Rattle.std.specs.Prelude.{◌≡◌, ◌+◌, ◌==◌, ◌++◌, ◌∷◌, [], OnOk, IfOk, map, drop, if◌then◌else◌};
+ghost use Rattle.std.specs.Prelude.{◌≡◌, ◌≤◌, ◌+◌, ◌==◌, ◌++◌, ◌∷◌, [], length, OnOk, IfOk, IfSome, map, drop, if◌then◌else◌};
 ghost use Rattle.sv_value.specs.declared.values.Key.{Key as KeyValue};
 ghost use Rattle.sv_app.specs.Schema.{declaration_of};
 ghost use Rattle.sv_app.specs.Slots.{item};
@@ -123,15 +123,6 @@ fn write_outside(key: &[Ident], number: u16, writes: &[(u16, Write)]) -> Option<
     write_at(number, writes)
 }
 
-fn next_number(number: u16) -> Result<u16, NoMemory>
-    ensures { IfOk result (λ next. next ≡ number + 1) }
-{
-    match number.checked_add(1) {
-        Some(next) => Ok(next),
-        None => Err(NoMemory),
-    }
-}
-
 /// The writes in the order of the columns, from one on.
 pub fn in_order(
     alloc: Global,
@@ -140,12 +131,14 @@ pub fn in_order(
     columns: &[Column],
     writes: &[(u16, Write)],
 ) -> Result<List<(u16, Write)>, NoMemory>
-    ensures { IfOk result (λ ws. ws ≡ in_order (declaration_of table.now) number columns.now writes.now) }
+    requires { number + length columns.now ≤ 16 }
+    ensures writes { IfOk result (λ ws. ws ≡ in_order (declaration_of table.now) number columns.now writes.now) }
+    ensures few { IfOk result (λ ws. length ws ≤ length columns.now) }
 {
     match columns {
         [] => Ok(List::new(alloc)),
         [_, rest @ ..] => {
-            let later = in_order(alloc, table, next_number(number)?, rest, writes)?;
+            let later = in_order(alloc, table, number + 1, rest, writes)?;
             match write_outside(&table.key, number, writes) {
                 Some(write) => prepend(write, later),
                 None => Ok(later),
@@ -206,12 +199,14 @@ pub fn inserts(
     columns: &[Column],
     scope: &mut Scope,
 ) -> Result<Option<List<(u16, Write)>>, NoMemory>
-    ensures { IfOk result (λ ws. inserts (declaration_of table.now) vals.now kept.now number columns.now (scope_of scope.old) ≡ evaluated ws scope.new) }
+    requires { number + length columns.now ≤ 16 }
+    ensures writes { IfOk result (λ ws. inserts (declaration_of table.now) vals.now kept.now number columns.now (scope_of scope.old) ≡ evaluated ws scope.new) }
+    ensures few { IfOk result (λ ws. IfSome ws (λ ws. length ws ≤ length columns.now)) }
 {
     match columns {
         [] => Ok(Some(List::new(alloc))),
         [first, rest @ ..] => {
-            let next = next_number(number)?;
+            let next = number + 1;
             if is_key_column(&table.key, number) {
                 return inserts(alloc, table, vals, kept, next, rest, scope);
             }
@@ -266,12 +261,13 @@ fn zeros_from(
     number: u16,
     columns: &[Column],
 ) -> Result<List<Got>, NoMemory>
+    requires { number + length columns.now ≤ 16 }
     ensures { IfOk result (λ row. (key : KeyValue) → key_values key ≡ parts.now → row ≡ map got_of (values_from (declaration_of table.now) key number columns.now)) }
 {
     match columns {
         [] => Ok(List::new(alloc)),
         [first, rest @ ..] => {
-            let later = zeros_from(alloc, table, parts, next_number(number)?, rest)?;
+            let later = zeros_from(alloc, table, parts, number + 1, rest)?;
             let val = from_key(&table.key, parts, number, &zero_of(first.ty));
             prepend(got_of(&val), later)
         }
@@ -292,6 +288,7 @@ pub fn key_values(alloc: Global, key: &Key) -> Result<List<Val>, NoMemory>
 
 /// The values of a row that isn't kept.
 pub fn zeros(alloc: Global, table: &Table, key: &Key) -> Result<List<Got>, NoMemory>
+    requires { length (declaration_of table.now).columns ≤ 16 }
     ensures { IfOk result (λ row. row ≡ map got_of (zero_values (declaration_of table.now) key.now)) }
 {
     let parts = key_values(alloc, key)?;

@@ -10,6 +10,7 @@ mod needs;
 mod overlays;
 mod runs;
 mod scopes;
+mod settings;
 mod slots;
 mod statements;
 mod states;

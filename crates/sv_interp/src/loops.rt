@@ -1,4 +1,4 @@
-ghost use Rattle.std.specs.Prelude.{◌≡◌, ◌++◌, not, IfOk, OnOk, map};
+ghost use Rattle.std.specs.Prelude.{◌≡◌, ◌<◌, ◌≤◌, ◌+◌, ◌++◌, not, length, IfOk, OnOk, map};
 ghost use Rattle.std.specs.List.{filter};
 ghost use Rattle.sv_app.specs.Symbols.{is_one_of, known_after, block_assigns, command_assigns};
 ghost use Rattle.sv_app.specs.Trees.{block_of, command_of};
@@ -19,18 +19,18 @@ pub fn split(stmts: &[Stmt]) -> Option<(&Stmt, &[Stmt])>
 }
 
 /// The number of the unit of the loop over a variable.
-pub fn unit_of(loops: &[u16], var: u16) -> Result<u16, NoMemory>
-    ensures { IfOk result (λ unit. unit ≡ unit_of loops.now var) }
+pub fn unit_of(loops: &[u16], var: u16) -> u16
+    requires { length loops.now < 65535 }
+    ensures unit { result ≡ unit_of loops.now var }
+    ensures bounded { result ≤ length loops.now + 1 }
 {
-    match loops.split_first() {
-        None => Ok(1),
-        Some((first, rest)) => {
+    match loops {
+        [] => 1,
+        [first, rest @ ..] => {
             if *first == var {
-                return Ok(1);
-            }
-            match unit_of(rest, var)?.checked_add(1) {
-                Some(unit) => Ok(unit),
-                None => Err(NoMemory),
+                1
+            } else {
+                unit_of(rest, var) + 1
             }
         }
     }

@@ -14,11 +14,12 @@ use crate::keys::met_keys;
 use crate::looks::look;
 use crate::loops::split;
 use crate::scopes::Progress;
+use crate::settings::Setting;
 use crate::slots::put_value;
 use crate::statements::{
     items_of, loop_unit, run_get, run_insert, run_let, run_remove, run_reply, run_update,
 };
-use crate::states::{Setting, State};
+use crate::states::State;
 use crate::values::truth;
 use std::alloc::Global;
 use sv_app::{Cond, Ident, Parts, Place, Stmt, parts_of};
@@ -374,7 +375,7 @@ fn run_each<R: Rows>(
 {
     let vals = items_of(alloc, setting, list.num)?;
     let number = var.num;
-    let unit = loop_unit(setting, number)?;
+    let unit = loop_unit(setting, number);
     let end = loop_items(
         alloc,
         setting,
@@ -413,7 +414,7 @@ fn run_for<R: Rows>(
     let Some(keys) = met_keys(alloc, bound, number, cond, &state.own, scratch, rows)? else {
         return Ok(Some(Outcome::Range));
     };
-    let unit = loop_unit(setting, bound)?;
+    let unit = loop_unit(setting, bound);
     let end = loop_rows(
         alloc,
         setting,

@@ -1,7 +1,7 @@
-ghost use Rattle.std.specs.Prelude.{◌≡◌, IfOk, Err, false, List as Items, map, slice_get};
+ghost use Rattle.std.specs.Prelude.{◌≡◌, ◌≤◌, length, IfOk, IfSome, Err, false, List as Items, map, slice_get};
 ghost use Rattle.sv_value.specs.declared.values.Val.TheVariants.{Int};
 ghost use Rattle.std.specs.FinMap.{get};
-ghost use Rattle.sv_app.specs.Schema.{Declaration, declaration_of};
+ghost use Rattle.sv_app.specs.Schema.{Declaration, declaration_of, schema_of};
 ghost use Rattle.sv_app.specs.Tables.{Tables};
 ghost use Rattle.sv_app.specs.Trees.{term_of, terms_of, sets_of, Declare, Fetch, Insert, Update, Remove, Reply};
 ghost use Rattle.sv_app.specs.Units.{unit_of};
@@ -15,7 +15,8 @@ use crate::changes::{insert_row, remove_row, update_row};
 use crate::inserts::{key_in, key_of, values};
 use crate::looks::look;
 use crate::loops::unit_of;
-use crate::states::{Setting, State};
+use crate::settings::Setting;
+use crate::states::State;
 use crate::values::value;
 use std::alloc::Global;
 use sv_app::{Arg, Expr, Ident, Place, Table};
@@ -80,11 +81,18 @@ pub fn run_get<R: Rows>(
     }
 }
 
+fn found_table(tables: &[Table], number: u16) -> Option<&Table>
+    ensures { slice_get (schema_of tables.now) number ≡ declared result }
+{
+    tables.get(number as usize)
+}
+
 /// The table of that number.
 fn table_at<'a>(setting: &Setting<'a>, number: u16) -> Option<&'a Table>
-    ensures { slice_get (setting_of setting.now).schema number ≡ declared result }
+    ensures table { slice_get (setting_of setting.now).schema number ≡ declared result }
+    ensures narrow { IfSome result (λ table. length (declaration_of table.now).columns ≤ 16) }
 {
-    setting.tables.get(number as usize)
+    found_table(setting.tables, number)
 }
 
 #[tactic(auto, using(crate::proofs::RunLaws::steps, crate::proofs::KeepLaws::steps))]
@@ -96,6 +104,7 @@ fn insert_at<R: Rows>(
     state: &mut State,
     rows: &mut R,
 ) -> Result<Option<Outcome>, Halt>
+    requires narrow { length (declaration_of table.now).columns ≤ 16 }
     ensures ran { IfOk result (λ end. Runs (λ st. inserted (declaration_of table.now) place.now vals.now (get st.tables place.now) st) (R.tables rows.old) (R.tables rows.new) (R.noted rows.old) (R.noted rows.new) state.old end state.new) }
     ensures kept { IfOk result (λ end. LooksUp (R.is_of rows.old) place.now (λ row st. inserted (declaration_of table.now) place.now vals.now row st) state.old end state.new) }
     ensures same_app { (schema : Items Declaration) → R.is_of rows.old schema → R.is_of rows.new schema }
@@ -148,6 +157,7 @@ fn update_at<R: Rows>(
     state: &mut State,
     rows: &mut R,
 ) -> Result<Option<Outcome>, Halt>
+    requires narrow { length (declaration_of table.now).columns ≤ 16 }
     ensures ran { IfOk result (λ end. Runs (λ st. on_present (get st.tables place.now) (updated (declaration_of table.now) place.now (sets_of sets.now) st)) (R.tables rows.old) (R.tables rows.new) (R.noted rows.old) (R.noted rows.new) state.old end state.new) }
     ensures kept { IfOk result (λ end. LooksUp (R.is_of rows.old) place.now (λ row st. on_present row (updated (declaration_of table.now) place.now (sets_of sets.now) st)) state.old end state.new) }
     ensures same_app { (schema : Items Declaration) → R.is_of rows.old schema → R.is_of rows.new schema }
@@ -256,8 +266,8 @@ fn integers(alloc: Global, numbers: &[i64]) -> Result<List<Val>, NoMemory>
 }
 
 /// The number of the unit of the loop over a variable.
-pub fn loop_unit(setting: &Setting<'_>, var: u16) -> Result<u16, NoMemory>
-    ensures { IfOk result (λ unit. unit ≡ unit_of (setting_of setting.now).loops var) }
+pub fn loop_unit(setting: &Setting<'_>, var: u16) -> u16
+    ensures { result ≡ unit_of (setting_of setting.now).loops var }
 {
     let loops = setting.loops;
     unit_of(loops, var)

@@ -10,7 +10,7 @@ use crate::slots::{put_row, put_value};
 use arrayvec::ArrayVec;
 use std::alloc::Global;
 use std::mem::replace;
-use sv_app::{Act, Arg, Got, Instance, Place, Source, Stmt, Table};
+use sv_app::{Act, Got, Instance, Place, Source, Stmt};
 use sv_effect::{Outcome, RowEffect, Write};
 use sv_value::{List, NoMemory, Val};
 
@@ -19,14 +19,6 @@ use sv_value::{List, NoMemory, Val};
 pub struct OwnRow {
     pub values: List<Got>,
     pub present: bool,
-}
-
-/// What a run is made of: the tables, the arguments, and the variables of its loops in the order of the text.
-#[derive(Clone, Copy, Debug)]
-pub struct Setting<'a> {
-    pub tables: &'a [Table],
-    pub args: &'a [Arg],
-    pub loops: &'a [u16],
 }
 
 /// An instance of a unit, in which nothing was done yet.

@@ -1,8 +1,15 @@
 //! Runs on tables without rows: how they end, and what a run reads of its own changes.
-use crate::{Outcome, Ran, run_txn};
+ghost use Rattle.std.specs.Prelude.{◌≡◌, ◌∷◌, [], length, IfOk};
+ghost use Rattle.sv_app.specs.Schema.{declaration_of, schema_of};
+ghost use Rattle.sv_interp.specs.Limits.{AreNarrow};
+
+use crate::loops::put_loops;
+use crate::settings::Setting;
+use crate::txns::run_body;
+use crate::{Outcome, Ran};
 use std::alloc::Global;
 use std::test::Fail;
-use sv_app::{App, Column, Cond, Expr, Ident, Kind, Merge, Rel, Request, Stmt, Table, Txn, Ty};
+use sv_app::{Arg, Column, Cond, Expr, Ident, Kind, Merge, Rel, Stmt, Table, Ty};
 use sv_effect::{Halt, Rows, Seen};
 use sv_value::{Key, List, Name, Spot, Val};
 
@@ -53,7 +60,9 @@ fn column(num: u16, merge: Merge) -> Result<Column, Fail> {
 }
 
 /// A table of an integer key, a counter, and an integer of which the last writer wins.
-fn table(alloc: Global) -> Result<Table, Fail> {
+fn table(alloc: Global) -> Result<Table, Fail>
+    ensures { IfOk result (λ table. length (declaration_of table).columns ≡ 3) }
+{
     let mut columns = Vec::new(alloc);
     columns.push(column(0, Merge::Plain)?)?;
     columns.push(column(1, Merge::NumDelta)?)?;
@@ -70,24 +79,36 @@ fn table(alloc: Global) -> Result<Table, Fail> {
     })
 }
 
-fn run(alloc: Global, body: Vec<Stmt>) -> Result<Ran, Fail> {
+#[tactic(auto, using(crate::proofs::LimitLaws::one_narrow))]
+fn tables(alloc: Global) -> Result<Vec<Table>, Fail>
+    ensures { IfOk result (λ tables. AreNarrow (schema_of tables.items)) }
+{
+    let table = table(alloc)?;
     let mut tables = Vec::new(alloc);
-    tables.push(table(alloc)?)?;
-    let mut txns = Vec::new(alloc);
-    txns.push(Txn {
-        name: ident(0)?,
-        params: Vec::new(alloc),
-        body,
-    })?;
-    let app = App { tables, txns };
-    let request = Request {
-        txn: 0,
-        args: List::new(alloc),
+    tables.push(table)?;
+    Ok(tables)
+}
+
+fn run_with(alloc: Global, body: Vec<Stmt>, args: List<Arg>) -> Result<Ran, Fail> {
+    let tables = tables(alloc)?;
+    let mut loops = Vec::new(alloc);
+    put_loops(&mut loops, &body)?;
+    if loops.len() >= 65535 {
+        return Err(Fail::from("too many loops"));
+    }
+    let setting = Setting {
+        tables: &tables,
+        args: args.items(),
+        loops: loops.as_slice(),
     };
-    match run_txn(alloc, &app, &request, &mut Nothing) {
+    match run_body(alloc, &setting, &body, &mut Nothing) {
         Ok(ran) => Ok(ran),
         Err(_) => Err(Fail::from("no memory")),
     }
+}
+
+fn run(alloc: Global, body: Vec<Stmt>) -> Result<Ran, Fail> {
+    run_with(alloc, body, List::new(alloc))
 }
 
 fn int(number: i64) -> Expr {

@@ -1,9 +1,11 @@
 ghost use Rattle.std.specs.Prelude.{◌≡◌, ◌<◌, ◌≤◌, ◌^◌, length, IfOk, Err, false, List as Items, map, slice_get};
 ghost use Rattle.std.specs.List.{All};
+ghost use Rattle.sv_app.specs.Accepted.{AcceptedApp};
 ghost use Rattle.sv_app.specs.Schema.{Declaration, schema_of};
 ghost use Rattle.sv_app.specs.Tables.{Tables};
 ghost use Rattle.sv_app.specs.Shaped.{Shaped};
 ghost use Rattle.sv_app.specs.Trees.{Transaction, block_of, transactions_of};
+ghost use Rattle.sv_app.specs.Units.{loop_variables};
 ghost use Rattle.sv_effect.specs.declared.reads.Ask.{Ask as AskValue};
 ghost use Rattle.sv_effect.specs.declared.reads.Halt.TheVariants as halt;
 ghost use Rattle.sv_effect.specs.Fits.{AllFit};
@@ -17,8 +19,9 @@ use crate::loops::put_loops;
 use crate::needs::needs;
 use crate::runs::run_all;
 use crate::scopes::Scope;
+use crate::settings::Setting;
 use crate::slots::prepend;
-use crate::states::{Setting, State, beginning, instance_of};
+use crate::states::{State, beginning, instance_of};
 use std::alloc::Global;
 use sv_app::{App, Arg, Request, Stmt, Table};
 use sv_effect::{Halt, Outcome, Ran, Rows};
@@ -101,37 +104,31 @@ fn ended(alloc: Global, outcome: Outcome) -> Ran
     }
 }
 
+/// Runs statements from the beginning.
 #[tactic(auto, using(crate::proofs::TxnLaws::endings))]
-fn run_body<R: Rows>(
+pub fn run_body<R: Rows>(
     alloc: Global,
-    tables: &[Table],
+    setting: &Setting<'_>,
     body: &[Stmt],
-    args: &[Arg],
     rows: &mut R,
 ) -> Result<Ran, Halt>
-    ensures followed { IfOk result (λ ran. Follows (R.tables rows.old) (R.tables rows.new) (R.noted rows.old) (R.noted rows.new) (λ t. run_body (schema_of tables.now) (block_of body.now) args.now t ≡ ran_of ran)) }
+    requires loops { setting.now.loops.now ≡ loop_variables (block_of body.now) }
+    ensures followed { IfOk result (λ ran. Follows (R.tables rows.old) (R.tables rows.new) (R.noted rows.old) (R.noted rows.new) (λ t. run_body (schema_of setting.now.tables.now) (block_of body.now) setting.now.args.now t ≡ ran_of ran)) }
     ensures same_app { (schema : Items Declaration) → R.is_of rows.old schema → R.is_of rows.new schema }
     ensures same_tables { R.tables rows.new ≡ R.tables rows.old }
     ensures same_knows { R.knows rows.new ≡ R.knows rows.old }
     ensures missing { (a : AskValue) → result ≡ Err (halt.Missing a) → R.knows rows.old a ≡ false }
-    ensures fits { IfOk result (λ ran. (f : Frame) → IsBodyOf f (schema_of tables.now) (block_of body.now) args.now → R.is_of rows.old f.schema → RunFits f.schema f.txn ran) }
+    ensures fits { IfOk result (λ ran. (f : Frame) → IsBodyOf f (schema_of setting.now.tables.now) (block_of body.now) setting.now.args.now → R.is_of rows.old f.schema → RunFits f.schema f.txn ran) }
     ensures instances { IfOk result (λ ran. length ran.trace < 2 ^ 32) }
 {
-    let mut loops = Vec::new(alloc);
-    put_loops(&mut loops, body)?;
-    let setting = Setting {
-        tables,
-        args,
-        loops: loops.as_slice(),
-    };
-    let mut state = start(alloc, args)?;
-    match run_all(alloc, &setting, body, &mut state, rows)? {
+    let mut state = start(alloc, setting.args)?;
+    match run_all(alloc, setting, body, &mut state, rows)? {
         Some(outcome) => {
             let ran = ended(alloc, outcome);
             Ok(ran)
         }
         None => {
-            let ran = finish(alloc, tables, state)?;
+            let ran = finish(alloc, setting.tables, state)?;
             Ok(ran)
         }
     }
@@ -158,6 +155,7 @@ pub fn run_txn<R: Rows>(
     request: &Request,
     rows: &mut R,
 ) -> Result<Ran, Halt>
+    requires accepted { AcceptedApp (schema_of app.now.tables.items) (transactions_of app.now.txns.items) }
     ensures followed { IfOk result (λ ran. Follows (R.tables rows.old) (R.tables rows.new) (R.noted rows.old) (R.noted rows.new)
         (λ t. run (schema_of app.now.tables.items) (transactions_of app.now.txns.items) request.now t ≡ ran_of ran)) }
     ensures same_app { (schema : Items Declaration) → R.is_of rows.old schema → R.is_of rows.new schema }
@@ -171,6 +169,13 @@ pub fn run_txn<R: Rows>(
     ensures instances { IfOk result (λ ran. length ran.trace < 2 ^ 32) }
 {
     let body = body_of(app, request.txn);
-    let ran = run_body(alloc, &app.tables, body, request.args.items(), rows)?;
+    let mut loops = Vec::new(alloc);
+    put_loops(&mut loops, body)?;
+    let setting = Setting {
+        tables: &app.tables,
+        args: request.args.items(),
+        loops: loops.as_slice(),
+    };
+    let ran = run_body(alloc, &setting, body, rows)?;
     Ok(ran)
 }

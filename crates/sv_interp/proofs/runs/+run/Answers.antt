@@ -29,8 +29,8 @@ pub run_for-returns-clause-ran : goal.run_for-returns-clause-ran
 run_for-returns-clause-ran g t c =
     let same : c.items.result.now ≡ c.in-Some.keys = search rules in
     for_runs (setting_of c.args.setting.now) c.args.row c.args.table (option_map test_of c.args.cond.now) (block_of c.args.body.now) _ _ _ _ _ _
-    c.args.state.now c.deref.result.now _ c.in_ok-keys.field-0 c.in-Some.keys c.items.result.now c.in_ok-unit.unit _ c.loop_rows.new.state
-    c.in_ok-keys.ensures.followed c.deref.ensures.value c.in_ok-scratch.ensures c.in-Some.is same c.in_ok-unit.ensures c.in_ok-end.ensures.ran
+    c.args.state.now c.deref.result.now _ c.in_ok-keys.field-0 c.in-Some.keys c.items.result.now c.loop_unit-unit.result _ c.loop_rows.new.state
+    c.in_ok-keys.ensures.followed c.deref.ensures.value c.in_ok-scratch.ensures c.in-Some.is same c.loop_unit-unit.ensures c.in_ok-end.ensures.ran
 
 pub run_items-returns-in-Some-clause-ran : goal.run_items-returns-in-Some-clause-ran
 run_items-returns-in-Some-clause-ran g t c =
@@ -107,11 +107,11 @@ run_row-returns-in_ok-end-in-Some-clause-kept g t c =
 
 pub run_for-returns-clause-kept : goal.run_for-returns-clause-kept
 run_for-returns-clause-kept g t c =
-    keeps_for _ _ (setting_of c.args.setting.now) c.args.row c.args.table (option_map test_of c.args.cond.now) (block_of c.args.body.now) c.in_ok-unit.unit c.args.state.now c.loop_rows.new.state c.in_ok-end.end
-    c.in_ok-unit.ensures c.in_ok-keys.ensures.same_app c.in_ok-end.ensures.kept
+    keeps_for _ _ (setting_of c.args.setting.now) c.args.row c.args.table (option_map test_of c.args.cond.now) (block_of c.args.body.now) c.loop_unit-unit.result c.args.state.now c.loop_rows.new.state c.in_ok-end.end
+    c.loop_unit-unit.ensures c.in_ok-keys.ensures.same_app c.in_ok-end.ensures.kept
 
 pub run_each-returns-clause-kept : goal.run_each-returns-clause-kept
 run_each-returns-clause-kept g t c =
     let same : c.items.result.now ≡ c.in_ok-vals.vals = search rules in
-    keeps_each _ (setting_of c.args.setting.now) c.args.var c.args.list (block_of c.args.body.now) c.in_ok-unit.unit c.items.result.now c.args.state.now c.loop_items.new.state c.in_ok-end.end
-    c.in_ok-unit.ensures (same ∙ c.in_ok-vals.ensures) c.in_ok-end.ensures.kept
+    keeps_each _ (setting_of c.args.setting.now) c.args.var c.args.list (block_of c.args.body.now) c.loop_unit-unit.result c.items.result.now c.args.state.now c.loop_items.new.state c.in_ok-end.end
+    c.loop_unit-unit.ensures (same ∙ c.in_ok-vals.ensures) c.in_ok-end.ensures.kept

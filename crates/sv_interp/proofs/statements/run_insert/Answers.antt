@@ -20,4 +20,4 @@ returns-clause-kept g c =
     (c.in_ok-key_in.ensures ∙ ap (λ ns. key_in ns c.items.result.now) names ∙ ap (key_in table.key) (first ∙ sym second)) in
     let u : State = record c.args.state.now { scope = c.values.new.scope } in
     keeps_insert _ (setting_of c.args.setting.now) c.args.table (terms_of c.args.exprs.now) table p c.in_ok-vals.field-0 c.items-2.result.now c.args.state.now u c.insert_at.new.state c.in_ok-end.end
-    c.in_ok-vals.ensures (c.in-Some.is ∙ ap (λ l. Some l) (sym second)) refl (c.table_at.ensures ∙ ap declared c.in-Some-table_at.is) here c.in_ok-end.ensures.kept
+    c.in_ok-vals.ensures (c.in-Some.is ∙ ap (λ l. Some l) (sym second)) refl (c.table_at.ensures.table ∙ ap declared c.in-Some-table_at.is) here c.in_ok-end.ensures.kept

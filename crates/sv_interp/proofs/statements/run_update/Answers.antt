@@ -16,4 +16,4 @@ returns-clause-kept g c =
     let here : p ≡ place_of_row c.args.table c.in-Some.vals = ap (λ k. let q : Place = record { table = c.args.table.num; key = k } in q) (c.key_of.ensures ∙ ap key_of same) in
     let u : State = record c.args.state.now { scope = c.values.new.scope } in
     keeps_update _ (setting_of c.args.setting.now) c.args.table (terms_of c.args.key.now) (sets_of c.args.sets.now) (declaration_of c.in-Some-table_at.declared.now) p c.in_ok-vals.field-0 c.in-Some.vals
-    c.args.state.now u c.update_at.new.state c.in_ok-end.end c.in_ok-vals.ensures c.in-Some.is refl (c.table_at.ensures ∙ ap declared c.in-Some-table_at.is) here c.in_ok-end.ensures.kept
+    c.args.state.now u c.update_at.new.state c.in_ok-end.end c.in_ok-vals.ensures c.in-Some.is refl (c.table_at.ensures.table ∙ ap declared c.in-Some-table_at.is) here c.in_ok-end.ensures.kept

@@ -1,7 +1,5 @@
-use Rattle.std.proofs.Common.{◌≡◌, rules}
 use Rattle.sv_app.specs.Schema.{schema_of}
 use Rattle.sv_app.specs.Trees.{block_of}
-use Rattle.sv_app.specs.Units.{loop_variables}
 use Rattle.sv_effect.specs.Run.{ran_of}
 use Rattle.sv_interp.proofs.ResultLaws.{whole_fits, ended_fits}
 use Rattle.sv_interp.proofs.TxnLaws.{made_whole, made_ended}
@@ -9,21 +7,18 @@ use Rattle.sv_interp.proofs.txns.run_body.Goals as goal
 
 pub returns-in-Some-clause-followed : goal.returns-in-Some-clause-followed
 returns-in-Some-clause-followed g c =
-    let loops : c.as_slice.result.now ≡ loop_variables (block_of c.args.body.now) = search rules in
-    made_ended (schema_of c.args.tables.now) c.as_slice.result.now (block_of c.args.body.now) c.args.args.now _ _ _ _ c.in_ok-state.state c.in_ok-outcome.field-0 c.run_all.new.state c.in-Some.outcome (ran_of c.ended-ran.result)
-    loops c.in_ok-state.ensures c.in_ok-outcome.ensures.ran c.in-Some.is c.ended-ran.ensures.result
+    made_ended (schema_of c.args.setting.now.tables.now) c.args.setting.now.loops.now (block_of c.args.body.now) c.args.setting.now.args.now _ _ _ _ c.in_ok-state.state c.in_ok-outcome.field-0 c.run_all.new.state c.in-Some.outcome (ran_of c.ended-ran.result)
+    c.requires.loops c.in_ok-state.ensures c.in_ok-outcome.ensures.ran c.in-Some.is c.ended-ran.ensures.result
 
-pub returns-clause-followed : goal.returns-clause-followed
-returns-clause-followed g c =
-    let loops : c.as_slice.result.now ≡ loop_variables (block_of c.args.body.now) = search rules in
-    made_whole (schema_of c.args.tables.now) c.as_slice.result.now (block_of c.args.body.now) c.args.args.now _ _ _ _ c.in_ok-state.state c.in_ok-outcome.field-0 c.run_all.new.state (ran_of c.in_ok-ran-in-None.ran)
-    loops c.in_ok-state.ensures c.in_ok-outcome.ensures.ran c.in-None.is c.in_ok-ran-in-None.ensures.result
+pub returns-in_ok-ran-in-None-clause-followed : goal.returns-in_ok-ran-in-None-clause-followed
+returns-in_ok-ran-in-None-clause-followed g c =
+    made_whole (schema_of c.args.setting.now.tables.now) c.args.setting.now.loops.now (block_of c.args.body.now) c.args.setting.now.args.now _ _ _ _ c.in_ok-state.state c.in_ok-outcome.field-0 c.run_all.new.state (ran_of c.in_ok-ran-in-None.ran)
+    c.requires.loops c.in_ok-state.ensures c.in_ok-outcome.ensures.ran c.in-None.is c.in_ok-ran-in-None.ensures.result
 
 pub returns-in-Some-clause-fits : goal.returns-in-Some-clause-fits
 returns-in-Some-clause-fits g c = λ f of is. ended_fits c.in-Some.outcome c.ended-ran.result c.ended-ran.ensures.result f
 
-pub returns-clause-fits : goal.returns-clause-fits
-returns-clause-fits g c =
-    let loops : c.as_slice.result.now ≡ loop_variables (block_of c.args.body.now) = search rules in
-    whole_fits _ (schema_of c.args.tables.now) c.as_slice.result.now (block_of c.args.body.now) c.args.args.now c.in_ok-state.state c.run_all.new.state c.in_ok-outcome.field-0 c.in_ok-ran-in-None.ran
-    loops c.in_ok-state.ensures c.in_ok-outcome.ensures.kept c.in-None.is c.in_ok-ran-in-None.ensures.result
+pub returns-in_ok-ran-in-None-clause-fits : goal.returns-in_ok-ran-in-None-clause-fits
+returns-in_ok-ran-in-None-clause-fits g c =
+    whole_fits _ (schema_of c.args.setting.now.tables.now) c.args.setting.now.loops.now (block_of c.args.body.now) c.args.setting.now.args.now c.in_ok-state.state c.run_all.new.state c.in_ok-outcome.field-0 c.in_ok-ran-in-None.ran
+    c.requires.loops c.in_ok-state.ensures c.in_ok-outcome.ensures.kept c.in-None.is c.in_ok-ran-in-None.ensures.result
