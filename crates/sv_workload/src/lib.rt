@@ -23,3 +23,5 @@ pub use written::{Call, Color, Given, PartHead, Row, Setting, Verb};
 
 #[cfg(test)]
 mod session_tests;
+#[cfg(test)]
+mod tests;
