@@ -241,3 +241,108 @@ fn runs_end_as_they_are_meant_to(rt: HostRuntime) -> Result<(), Fail> {
     assert_eq!(rt; outcome_number(&run(alloc, large)?), 1004);
     Ok(())
 }
+
+fn replied(alloc: Global, expr: Expr) -> Result<u16, Fail> {
+    let mut body = Vec::new(alloc);
+    body.push(Stmt::Reply(expr))?;
+    Ok(outcome_number(&run(alloc, body)?))
+}
+
+#[test]
+fn integers_have_64_bits(rt: HostRuntime) -> Result<(), Fail> {
+    let alloc = rt.alloc();
+    assert_eq!(rt; replied(alloc, int(i64::MIN))?, 0);
+    let below = sum(alloc, int(i64::MIN), int(-1))?;
+    assert_eq!(rt; replied(alloc, below)?, 1003);
+    let other = Expr::Neg(Box::new(alloc, int(i64::MIN))?, HERE);
+    assert_eq!(rt; replied(alloc, other)?, 1003);
+    Ok(())
+}
+
+fn product(alloc: Global, left: i64, right: i64) -> Result<Expr, Fail> {
+    let left = Box::new(alloc, int(left))?;
+    let right = Box::new(alloc, int(right))?;
+    Ok(Expr::Mul(left, right, HERE))
+}
+
+#[test]
+fn products_have_64_bits(rt: HostRuntime) -> Result<(), Fail> {
+    let alloc = rt.alloc();
+    let least = product(alloc, -2147483648, 4294967296)?;
+    assert_eq!(rt; replied(alloc, least)?, 0);
+    let above = product(alloc, 2147483648, 4294967296)?;
+    assert_eq!(rt; replied(alloc, above)?, 1003);
+    Ok(())
+}
+
+/// `if r.k = 1 { remove t[2]; }`
+fn removing(alloc: Global) -> Result<Stmt, Fail> {
+    let mut yes = Vec::new(alloc);
+    yes.push(Stmt::Remove {
+        table: ident(0)?,
+        key: one(alloc, int(2))?,
+    })?;
+    Ok(Stmt::If {
+        cond: Cond::Cmp {
+            left: field(0, 0)?,
+            rel: Rel::Eq,
+            right: int(1),
+        },
+        yes,
+        no: Vec::new(alloc),
+    })
+}
+
+#[test]
+fn a_row_vanishes_under_a_loop(rt: HostRuntime) -> Result<(), Fail> {
+    let alloc = rt.alloc();
+    let mut inner = Vec::new(alloc);
+    inner.push(removing(alloc)?)?;
+    let mut body = Vec::new(alloc);
+    body.push(insert(alloc, 3, 6, 8)?)?;
+    body.push(insert(alloc, 2, 6, 8)?)?;
+    body.push(insert(alloc, 1, 5, 7)?)?;
+    body.push(Stmt::Rows {
+        row: ident(0)?,
+        table: ident(0)?,
+        cond: None,
+        body: inner,
+    })?;
+    let ran = run(alloc, body)?;
+    assert_eq!(rt; outcome_number(&ran), 0);
+    assert_eq!(rt; ran.effects.len(), 4);
+    assert_eq!(rt; ran.trace.len(), 3);
+    Ok(())
+}
+
+/// `each e in l { remove t[e]; insert t(e, 0, 0); }` behind the insert of that row, on so many ones.
+fn changing(alloc: Global, many: usize) -> Result<u16, Fail> {
+    let mut numbers = List::new(alloc);
+    for _ in 0..many {
+        numbers.push(1)?;
+    }
+    let mut args = List::new(alloc);
+    args.push(Arg::Ints(numbers))?;
+    let mut inner = Vec::new(alloc);
+    inner.push(Stmt::Remove {
+        table: ident(0)?,
+        key: one(alloc, Expr::Var(ident(1)?, HERE))?,
+    })?;
+    inner.push(insert(alloc, 1, 0, 0)?)?;
+    let mut body = Vec::new(alloc);
+    body.push(insert(alloc, 1, 5, 7)?)?;
+    body.push(Stmt::Each {
+        var: ident(1)?,
+        list: ident(0)?,
+        body: inner,
+    })?;
+    Ok(outcome_number(&run_with(alloc, body, args)?))
+}
+
+#[test]
+fn changes_are_few(rt: HostRuntime) -> Result<(), Fail> {
+    let alloc = rt.alloc();
+    assert_eq!(rt; changing(alloc, 31)?, 0);
+    assert_eq!(rt; changing(alloc, 32)?, 1004);
+    Ok(())
+}
