@@ -14,6 +14,7 @@ pub mod ReferLaws
 pub mod RuleLaws
 pub mod SampleLaws
 pub mod SetLaws
+pub mod ShopLaws
 pub mod SlotLaws
 pub mod StartLaws
 pub mod TableLaws

@@ -27,10 +27,10 @@ use Rattle.sv_app.proofs.AcceptedLaws.{one_satisfiable}
 use Rattle.sv_app.specs.Satisfiable.{IsMet}
 use Rattle.sv_check.specs.Sample.{here, name_of, column_of, sample, IsInitOf, IsInsertOf}
 
-all_none : {A : Type 0} (P : A → Type 0) → All P []
+pub all_none : {A : Type 0} (P : A → Type 0) → All P []
 all_none P i d lt = absurd (omega (arith, lt))
 
-all_more : {A : Type 0} (P : A → Type 0) (x : A) (xs : List A) → P x → All P xs → All P (x ∷ xs)
+pub all_more : {A : Type 0} (P : A → Type 0) (x : A) (xs : List A) → P x → All P xs → All P (x ∷ xs)
 all_more P x xs p all zero d lt = p
 all_more P x xs p all (suc i) d lt = all i d (omega (arith, lt))
 

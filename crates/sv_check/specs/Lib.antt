@@ -5,5 +5,6 @@ pub mod Least
 pub mod Left
 pub mod Rules
 pub mod Sample
+pub mod Shop
 pub mod Tests
 pub mod Verdicts

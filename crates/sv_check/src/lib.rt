@@ -3,6 +3,8 @@
 
 mod after;
 mod broken;
+#[cfg(test)]
+mod cases;
 mod changes;
 mod clashes;
 mod initial;
