@@ -1,5 +1,6 @@
 //! Cases as texts: an application, initial rows and arguments.
-ghost use Rattle.std.specs.Prelude.{◌≡◌, ◌≤◌, All, IfOk, OnOk, length, drop};
+ghost use Rattle.std.specs.Prelude.{◌≡◌, ◌≤◌, All, IfOk, OnOk, length, slice_get};
+ghost use Rattle.std.specs.Option.{option_map};
 ghost use Rattle.sv_app.specs.Accepted.{AcceptedSchema};
 ghost use Rattle.sv_app.specs.Conditions.{KeepsGrammar, KeepsLimits, AreNumbered};
 ghost use Rattle.sv_app.specs.Fitting.{HasType};
@@ -215,14 +216,19 @@ fn check_whole_key(columns: &[Column], names: &[Ident], key: &Key) -> Result<(),
     }
 }
 
+fn table_at(tables: &[Table], number: u16) -> Option<&Table>
+    ensures { slice_get (schema_of tables.now) number ≡ option_map (λ table. declaration_of table.now) result }
+{
+    tables.get(number as usize)
+}
+
+#[tactic(auto, using(crate::proofs::FitLaws::row_fits))]
 fn check_row(tables: &[Table], row: &InitRow) -> Result<(), Fail>
     ensures { OnOk result (InitFits (schema_of tables.now) row.now) }
 {
-    let place = row.table as usize;
-    if place >= tables.len() {
+    let Some(table) = table_at(tables, row.table) else {
         return Err(Fail::new("no such table"));
-    }
-    let table = &tables[place];
+    };
     check_whole_key(&table.columns, &table.key, &row.key)?;
     check_values(&table.columns, row.values.items())
 }
