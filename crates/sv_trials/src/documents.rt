@@ -1,10 +1,11 @@
 //! Cases as texts: an application, initial rows and arguments.
 ghost use Rattle.std.specs.Prelude.{◌≡◌, ◌≤◌, All, IfOk, OnOk, length, slice_get};
 ghost use Rattle.std.specs.Option.{option_map};
-ghost use Rattle.sv_app.specs.Accepted.{AcceptedSchema};
+ghost use Rattle.sv_app.specs.Accepted.{AcceptedApp, AcceptedSchema};
 ghost use Rattle.sv_app.specs.Conditions.{KeepsGrammar, KeepsLimits, AreNumbered};
 ghost use Rattle.sv_app.specs.Fitting.{HasType};
 ghost use Rattle.sv_app.specs.Schema.{declaration_of, schema_of};
+ghost use Rattle.sv_app.specs.Trees.{transactions_of};
 ghost use Rattle.sv_effect.specs.Fits.{KeyFits};
 ghost use Rattle.sv_effect.specs.Initial.{ValuesFit, InitFits, AreDistinct};
 ghost use Rattle.sv_effect.specs.RowChange.{key_values};
@@ -41,7 +42,8 @@ fn behind(
     requires grammar { KeepsGrammar (schema_of tables.items) }
     requires limits { KeepsLimits (schema_of tables.items) }
     requires invariants { AreNumbered (schema_of tables.items) }
-    ensures { IfOk result (λ app. AcceptedSchema (schema_of app.tables.items)) }
+    ensures whole { IfOk result (λ app. AcceptedApp (schema_of app.tables.items) (transactions_of app.txns.items)) }
+    ensures tables { IfOk result (λ app. AcceptedSchema (schema_of app.tables.items)) }
 {
     match read_txns(alloc, tokens, end, at) {
         Err(_) => Err(Fail::new("transactions that aren't read")),
@@ -54,7 +56,8 @@ fn behind(
 
 /// The application of these tokens.
 pub fn application(alloc: Global, tokens: &[Token], end: Spot) -> Result<App, Fail>
-    ensures { IfOk result (λ app. AcceptedSchema (schema_of app.tables.items)) }
+    ensures whole { IfOk result (λ app. AcceptedApp (schema_of app.tables.items) (transactions_of app.txns.items)) }
+    ensures tables { IfOk result (λ app. AcceptedSchema (schema_of app.tables.items)) }
 {
     match read_schema(alloc, tokens, end, 0) {
         Err(_) => Err(Fail::new("tables that aren't read")),

@@ -1,5 +1,9 @@
 //! Runs by hand: each case is a transaction with arguments, and what the run comes to. The plain program and the
 //! interpreter, on a store and on a store whose reads are noted, all come to that.
+ghost use Rattle.sv_app.specs.Accepted.{AcceptedApp};
+ghost use Rattle.sv_app.specs.Schema.{schema_of};
+ghost use Rattle.sv_app.specs.Trees.{transactions_of};
+
 use crate::documents::{application, arguments, rows, store, tokens};
 use crate::plain::{PlainRow, run};
 use crate::texts::text_of;
@@ -53,7 +57,9 @@ pub fn interpreted<R: Rows>(
     app: &App,
     request: &Request,
     rows: &mut R,
-) -> Result<Ran, Fail> {
+) -> Result<Ran, Fail>
+    requires { AcceptedApp (schema_of app.now.tables.items) (transactions_of app.now.txns.items) }
+{
     match run_txn(alloc, app, request, rows) {
         Ok(ran) => Ok(ran),
         Err(_) => Err(Fail::new("halted")),
