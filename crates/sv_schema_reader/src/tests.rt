@@ -17,6 +17,18 @@ fn read(
     Ok(read_schema(alloc, &tokens, end, 0))
 }
 
+/// Where a document is refused, as line and column, with the number of the code.
+fn refusal(rt: &impl Abort, alloc: Global, bytes: &[u8]) -> Result<Option<(u32, u32, u8)>, Fail> {
+    match read(rt, alloc, bytes)? {
+        Err(Stop::Refused(refusal)) => Ok(Some((
+            refusal.spot.line,
+            refusal.spot.col,
+            refusal.code.number(),
+        ))),
+        _ => Ok(None),
+    }
+}
+
 /// The document is refused there.
 fn refuses(
     rt: &impl Abort,
@@ -26,13 +38,11 @@ fn refuses(
     col: u32,
     code: Code,
 ) -> Result<(), Fail> {
-    let found = match read(rt, alloc, bytes)? {
-        Err(Stop::Refused(refusal)) => {
-            Some((refusal.spot.line, refusal.spot.col, refusal.code.number()))
-        }
-        _ => None,
-    };
-    assert_eq!(rt; found, Some((line, col, code.number())), "in {bytes:?}");
+    assert_eq!(rt;
+        refusal(rt, alloc, bytes)?,
+        Some((line, col, code.number())),
+        "in {bytes:?}"
+    );
     Ok(())
 }
 
