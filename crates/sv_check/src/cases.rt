@@ -13,6 +13,7 @@ ghost use Rattle.sv_effect.specs.RowsFit.{KeyIsOf, SeenFits};
 ghost use Rattle.sv_check.specs.Sample.{name_of, key_of};
 ghost use Rattle.sv_check.specs.Shop.{parents, child_columns, child_invs, children, shop, child_of, parent_of, IsChange, IsParent, IsChild, Starts};
 
+use crate::plain::{PlainRow, judge, make};
 use crate::writes::got_of;
 use crate::{Verdict, check_after};
 use arrayvec::ArrayVec;
@@ -457,7 +458,35 @@ impl Rows for Shop {
     }
 }
 
-/// What is said of the changes, over the rows and over what was noted of them.
+/// All kept rows of the shop.
+fn kept_rows(alloc: Global) -> Result<Vec<PlainRow>, Fail> {
+    let mut rows = Vec::new(alloc);
+    for table in 0..4 {
+        for number in 0..33 {
+            let seen = seen(table, &key(number));
+            if seen.kept {
+                rows.push(PlainRow {
+                    table,
+                    key: key(number),
+                    present: seen.present,
+                    values: seen.values,
+                })?;
+            }
+        }
+    }
+    Ok(rows)
+}
+
+/// What the plain program says of the changes.
+fn plain_verdict(alloc: Global, app: &App, effects: &[RowEffect]) -> Result<Verdict, Fail> {
+    let mut rows = kept_rows(alloc)?;
+    for effect in effects {
+        make(app, effect, &mut rows)?;
+    }
+    Ok(judge(app, &rows))
+}
+
+/// What is said of the changes: by the plain program, over the rows, and over what was noted of them.
 #[tactic(auto, using(crate::proofs::ShopLaws::shop_accepted))]
 fn verdict(alloc: Global, effects: &[RowEffect]) -> Result<Verdict, Fail>
     requires fits { AllFit shop effects.now }
@@ -467,6 +496,9 @@ fn verdict(alloc: Global, effects: &[RowEffect]) -> Result<Verdict, Fail>
     let Ok(verdict) = check_after(alloc, &app, effects, &mut Shop) else {
         return Err(Fail::from("no verdict"));
     };
+    if plain_verdict(alloc, &app, effects)? != verdict {
+        return Err(Fail::from("not the plain program's verdict"));
+    }
     let mut shop = Shop;
     let mut noted = Noted::new(alloc, &mut shop);
     match check_after(alloc, &app, effects, &mut noted) {

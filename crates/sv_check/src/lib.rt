@@ -12,6 +12,8 @@ mod keys;
 mod laws;
 mod least;
 mod left;
+#[cfg(test)]
+mod plain;
 mod rules;
 #[cfg(test)]
 mod tests;
