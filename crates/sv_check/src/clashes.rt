@@ -1,11 +1,14 @@
 //! Uniqueness after changes.
 
-ghost use Rattle.std.specs.Prelude.{◌≡◌, ◌++◌, false, List, Err, IfOk, OnOk};
+ghost use Rattle.std.specs.Prelude.{◌≡◌, ◌++◌, false, List, Err, Some, IfOk, OnOk, if◌then◌else◌};
+ghost use Rattle.std.specs.Ordering.{eq_by_cmp};
+ghost use Rattle.std.specs.BTreeMap.{get};
 ghost use Rattle.sv_app.specs.Schema.{Declaration};
 ghost use Rattle.sv_effect.specs.declared.reads.Ask.{Ask as AskValue};
 ghost use Rattle.sv_effect.specs.declared.reads.Halt.TheVariants as halt;
 ghost use Rattle.sv_effect.specs.Follows.{Follows};
-ghost use Rattle.sv_check.specs.Clashes.{same_got, has_other, values_of, values_at, with_clash, Clashes};
+ghost use Rattle.sv_check.specs.declared.clashes.Ordered.{Ordered as OrderedValue};
+ghost use Rattle.sv_check.specs.Clashes.{values_of, values_at, in_order, ordered_cmp, with_both, Clashes};
 ghost use Rattle.sv_check.specs.Least.{IsLeast};
 ghost use Rattle.sv_check.specs.Left.{over, left_rows};
 
@@ -13,19 +16,16 @@ use crate::broken::value_of;
 use crate::keys::lesser;
 use crate::left::{LeftRow, look};
 use std::alloc::Global;
+use std::collections::BTreeMap;
 use sv_app::{Got, Ident, Place};
 use sv_effect::{Halt, Rows};
-use sv_value::{Key, NoMemory, Val};
+use sv_value::{Key, NoMemory, Text, Val};
 
-/// Whether they are one value.
-fn same_got(one: &Got, other: &Got) -> bool
-    ensures { result ≡ same_got one.now other.now }
-{
-    match (one, other) {
-        (Got::Num(one), Got::Num(other)) => one == other,
-        (Got::Text(one), Got::Text(other)) => one.cmp(other).is_eq(),
-        (Got::Num(_), Got::Text(_)) | (Got::Text(_), Got::Num(_)) => false,
-    }
+/// A value as the key of a map. A number has no text, and a text has the number zero.
+#[derive(Clone, Copy, Debug, PartialEq, Eq, PartialOrd, Ord)]
+pub struct Ordered {
+    pub number: i128,
+    pub text: Option<Text>,
 }
 
 /// Adds the row's key and value, if the row is present.
@@ -73,36 +73,68 @@ pub fn present_values<R: Rows>(
     Ok(pairs)
 }
 
-/// Whether another key has the value.
-fn has_other(pairs: &[(Key, Got)], key: &Key, value: &Got) -> bool
-    ensures { result ≡ has_other key.now value.now pairs.now }
+/// The value as the key of a map.
+fn in_order(value: &Got) -> Ordered
+    ensures { result ≡ in_order value.now }
 {
-    for (other, held) in pairs {
-        if same_got(held, value) && !other.cmp(key).is_eq() {
-            return true;
-        }
+    match value {
+        Got::Num(number) => Ordered {
+            number: *number,
+            text: None,
+        },
+        Got::Text(text) => Ordered {
+            number: 0,
+            text: Some(*text),
+        },
     }
-    false
 }
 
-fn with_clash(found: Option<Key>, pairs: &[(Key, Got)], key: &Key, value: &Got) -> Option<Key>
-    ensures { result ≡ with_clash found pairs.now key.now value.now }
+/// The first key that had the value, if one had.
+fn first_key(firsts: &BTreeMap<Ordered, Key>, value: &Ordered) -> Option<Key>
+    ensures { result ≡ get ordered_cmp firsts.now value.now }
 {
-    if has_other(pairs, key, value) {
-        lesser(found, Some(*key))
-    } else {
+    firsts.get(value).copied()
+}
+
+/// Notes the key as the first that has the value.
+fn note_first(
+    value: Ordered,
+    key: &Key,
+    firsts: &mut BTreeMap<Ordered, Key>,
+) -> Result<(), NoMemory>
+    ensures { OnOk result ((other : OrderedValue) → get ordered_cmp firsts.new other ≡ (if eq_by_cmp ordered_cmp value other then Some key.now else get ordered_cmp firsts.old other)) }
+{
+    // The check wants to see the types that are inside a value and a key.
+    let _val: Option<Val> = None;
+    let _text: Option<Text> = None;
+    firsts.insert(value, *key)?;
+    Ok(())
+}
+
+/// The least of the key found so far and of these two, unless they are one.
+fn with_both(found: Option<Key>, first: &Key, key: &Key) -> Option<Key>
+    ensures { result ≡ with_both found first.now key.now }
+{
+    if first.cmp(key).is_eq() {
         found
+    } else {
+        lesser(lesser(found, Some(*first)), Some(*key))
     }
 }
 
 /// The least key with a value that another key has.
-#[tactic(auto, using(crate::proofs::ClashLaws::clashing))]
-pub fn least_clash(pairs: &[(Key, Got)]) -> Option<Key>
-    ensures { IsLeast (Clashes pairs.now) result }
+#[tactic(auto, using(crate::proofs::FirstLaws::clashing))]
+pub fn least_clash(alloc: Global, pairs: &[(Key, Got)]) -> Result<Option<Key>, NoMemory>
+    ensures { IfOk result (λ found. IsLeast (Clashes pairs.now) found) }
 {
+    let mut firsts = BTreeMap::new(alloc);
     let mut found = None;
     for (key, value) in pairs {
-        found = with_clash(found, pairs, key, value);
+        let value = in_order(value);
+        match first_key(&firsts, &value) {
+            Some(first) => found = with_both(found, &first, key),
+            None => note_first(value, key, &mut firsts)?,
+        }
     }
-    found
+    Ok(found)
 }
