@@ -1,5 +1,5 @@
 -- Pairs of keys and values are put one after the other, and a key clashes where another has its value.
-use Rattle.std.proofs.Common.{◌≡◌, ◌⊎◌, inl, inr, ℕ, ℤ, int_eq, ◌+◌, ◌<◌, ◌≤◌, ◌&&◌, not, Bool, true, false, List, [], ◌++◌, take, get_or, length, Option, Some, refl, sym, ap, ◌∙◌, arith}
+use Rattle.std.proofs.Common.{◌≡◌, ◌⊎◌, inl, inr, ℕ, ℤ, int_eq, ◌+◌, ◌<◌, ◌≤◌, ◌&&◌, not, Bool, true, false, cond, List, [], ◌∷◌, ◌++◌, take, get_or, length, Option, Some, None, refl, sym, ap, ◌∙◌, arith}
 use Rattle.std.specs.Ordering.{is_eq}
 use Rattle.std.specs.FinMap.{get}
 use Rattle.std.proofs.lemmas.Int.{ints}
@@ -13,29 +13,60 @@ use Rattle.sv_app.specs.declared.apps.Ident.{Ident}
 use Rattle.sv_app.specs.declared.gots.Got.{Got}
 use Rattle.sv_app.specs.declared.gots.Got.TheVariants.{Num, Text}
 use Rattle.sv_app.specs.declared.places.Place.{Place}
-use Rattle.sv_app.specs.Tables.{Tables}
-use Rattle.sv_app.specs.Valid.{place_at}
+use Rattle.sv_app.specs.Tables.{Row, Tables}
+use Rattle.sv_app.specs.Valid.{value_of, place_at}
 use Rattle.sv_effect.specs.Follows.{Follows}
-use Rattle.sv_effect.specs.Reads.{ReadValue}
+use Rattle.sv_effect.specs.Agrees.{seen_at}
+use Rattle.sv_effect.specs.Reads.{SeenValue, ReadValue}
 use Rattle.sv_effect.proofs.FollowLaws.{quiet, so, next_to}
 use Rattle.sv_check.specs.declared.left.LeftRow.{LeftRow}
-use Rattle.sv_check.specs.Left.{over, left_rows}
-use Rattle.sv_check.specs.Clashes.{Pair, same_got, values_of, values_at, Clashes}
+use Rattle.sv_check.specs.Left.{over, hides, told_row}
+use Rattle.sv_check.specs.Clashes.{Pair, same_got, present_value, pair_of, values_of, values_at, Clashes}
+use Rattle.sv_check.proofs.LeftLaws.{told_back}
 use Rattle.sv_check.proofs.ListLaws.{Stands, any_at, Passes, any_passes}
 use Rattle.sv_check.proofs.RuleLaws.{clash}
 use Rattle.sv_check.proofs.SetLaws.{flat_more}
+
+-- ---- the value at a place
+
+-- a change left the row
+pub value_left : (o n : Option Tables) (a b : Option (List ReadValue)) (left : List (Place × LeftRow)) (place : Place) (column : Ident) (row : Row) (found : Option Row) (value : Option Got) → n ≡ o → b ≡ a
+    → ((t : Tables) → get (over left t) place ≡ hides found (get t place)) → found ≡ Some row → value ≡ present_value column (Some row)
+    → Follows o n a b (λ t. value ≡ present_value column (get (over left t) place))
+value_left o n a b left place column row found value same stands at is gives =
+    quiet o n a b _ same stands (λ t. gives ∙ ap (present_value column) (sym (at t ∙ ap (λ f. hides f (get t place)) is)))
+
+-- the row before is asked for
+pub value_behind : (o n : Option Tables) (a b : Option (List ReadValue)) (left : List (Place × LeftRow)) (place : Place) (column : Ident) (found : Option Row) (seen : SeenValue) (value : Option Got)
+    → Follows o n a b (λ t. seen_at t (place_at place.table place.key) ≡ seen) → ((t : Tables) → get (over left t) place ≡ hides found (get t place)) → found ≡ None
+    → value ≡ present_value column (told_row seen) → Follows o n a b (λ t. value ≡ present_value column (get (over left t) place))
+value_behind o n a b left place column found seen value f at is gives =
+    so o n a b _ _ f (λ t told. gives ∙ ap (present_value column) (ap told_row (sym told) ∙ told_back (get t place) ∙ sym (at t ∙ ap (λ f. hides f (get t place)) is)))
+
+pub ruleset valuing = (value_left, value_behind)
+
+-- ---- pairs
+
+pair_present : (column : Ident) (key : Key) (row : Option Row) → pair_of key (present_value column row) ≡ values_of column key row
+pair_present column key None = refl
+pair_present column key (Some row) = by row.present
+  where
+    by : (b : Bool) → pair_of key (cond b (Some (value_of row column)) None) ≡ cond b ((key, value_of row column) ∷ []) []
+    by true = refl
+    by false = refl
 
 pub none_paired : (o n : Option Tables) (a b : Option (List ReadValue)) (left : List (Place × LeftRow)) (table : ℕ) (column : Ident) (keys : List Key) (pairs : List Pair) → n ≡ o → b ≡ a → pairs ≡ []
     → Follows o n a b (λ t. pairs ≡ values_at (over left t) table column (take 0 keys))
 none_paired o n a b left table column keys pairs same stands is = quiet o n a b _ same stands (λ t. is)
 
-pub one_paired : (o m n : Option Tables) (a b c : Option (List ReadValue)) (left : List (Place × LeftRow)) (table : ℕ) (column : Ident) (keys : List Key) (i : ℕ) (key : Key) (row : Option LeftRow) (old new : List Pair)
+pub one_paired : (o m n : Option Tables) (a b c : Option (List ReadValue)) (left : List (Place × LeftRow)) (table : ℕ) (column : Ident) (keys : List Key) (i : ℕ) (key : Key) (value : Option Got) (old new : List Pair)
     → i < length keys → key ≡ get_or keys i key
-    → Follows o m a b (λ t. old ≡ values_at (over left t) table column (take i keys)) → Follows m n b c (λ t. get (over left t) (place_at table key) ≡ left_rows row)
-    → new ≡ old ++ values_of column key (left_rows row) → Follows o n a c (λ t. new ≡ values_at (over left t) table column (take (i + 1) keys))
-one_paired o m n a b c left table column keys i key row old new less is f g more =
+    → Follows o m a b (λ t. old ≡ values_at (over left t) table column (take i keys)) → Follows m n b c (λ t. value ≡ present_value column (get (over left t) (place_at table key)))
+    → new ≡ old ++ pair_of key value → Follows o n a c (λ t. new ≡ values_at (over left t) table column (take (i + 1) keys))
+one_paired o m n a b c left table column keys i key value old new less is f g more =
     next_to o m n a b c _ _ _ f g (λ t before looked.
-    more ∙ (λ j. before j ++ values_of column key (sym looked j))
+    more ∙ (λ j. before j ++ pair_of key (looked j))
+    ∙ ap (λ ps. values_at (over left t) table column (take i keys) ++ ps) (pair_present column key (get (over left t) (place_at table key)))
     ∙ ap (λ k. values_at (over left t) table column (take i keys) ++ values_of column k (get (over left t) (place_at table k))) is
     ∙ flat_more (λ k. values_of column k (get (over left t) (place_at table k))) keys i key less)
 

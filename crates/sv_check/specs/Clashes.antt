@@ -24,6 +24,16 @@ same_got (Text s) (Text t) = is_eq (text_cmp s t)
 same_got (Num n) (Text t) = false
 same_got (Text s) (Num m) = false
 
+-- the value of a column, if the row is present
+abbrev pub present_value : Ident → Option Row → Option Got
+present_value column None = None
+present_value column (Some row) = if row.present then Some (value_of row column) else None
+
+-- the key with its value, if it has one
+abbrev pub pair_of : Key → Option Got → List Pair
+pair_of key None = []
+pair_of key (Some value) = (key, value) ∷ []
+
 -- a present row's key and value
 abbrev pub values_of : Ident → Key → Option Row → List Pair
 values_of column key None = []

@@ -2,23 +2,25 @@
 
 ghost use Rattle.std.specs.Prelude.{◌≡◌, ◌++◌, false, List, Err, Some, IfOk, OnOk, if◌then◌else◌};
 ghost use Rattle.std.specs.Ordering.{eq_by_cmp};
-ghost use Rattle.std.specs.BTreeMap.{get};
+ghost use Rattle.std.specs.BTreeMap.{get as first_at};
+ghost use Rattle.std.specs.FinMap.{get};
 ghost use Rattle.sv_app.specs.Schema.{Declaration};
 ghost use Rattle.sv_effect.specs.declared.reads.Ask.{Ask as AskValue};
 ghost use Rattle.sv_effect.specs.declared.reads.Halt.TheVariants as halt;
 ghost use Rattle.sv_effect.specs.Follows.{Follows};
+ghost use Rattle.sv_effect.specs.Reads.{seen_of};
 ghost use Rattle.sv_check.specs.declared.clashes.Ordered.{Ordered as OrderedValue};
-ghost use Rattle.sv_check.specs.Clashes.{values_of, values_at, in_order, ordered_cmp, with_both, Clashes};
+ghost use Rattle.sv_check.specs.Clashes.{present_value, pair_of, values_at, in_order, ordered_cmp, with_both, Clashes};
 ghost use Rattle.sv_check.specs.Least.{IsLeast};
-ghost use Rattle.sv_check.specs.Left.{over, left_rows};
+ghost use Rattle.sv_check.specs.Left.{over, left_row, told_row};
 
-use crate::broken::value_of;
+use crate::broken::value_among;
 use crate::keys::lesser;
-use crate::left::{LeftRow, look};
+use crate::left::{LeftRow, left_at};
 use std::alloc::Global;
 use std::collections::BTreeMap;
 use sv_app::{Got, Ident, Place};
-use sv_effect::{Halt, Rows};
+use sv_effect::{Halt, Rows, Seen, ask_row};
 use sv_value::{Key, NoMemory, Text, Val};
 
 /// A value as the key of a map. A number has no text, and a text has the number zero.
@@ -28,21 +30,61 @@ pub struct Ordered {
     pub text: Option<Text>,
 }
 
-/// Adds the row's key and value, if the row is present.
-fn add_value(
-    key: &Key,
-    row: Option<LeftRow>,
+/// The value that the row has in the column, if it is present.
+fn value_left(row: &LeftRow, column: &Ident) -> Option<Got>
+    ensures { result ≡ present_value column.now (Some (left_row row.now)) }
+{
+    if row.present {
+        Some(value_among(row.values.items(), column))
+    } else {
+        None
+    }
+}
+
+/// The value that a row that was told of has in the column, if it is present.
+fn value_told(seen: &Seen, column: &Ident) -> Option<Got>
+    ensures { result ≡ present_value column.now (told_row (seen_of seen.now)) }
+{
+    if seen.kept && seen.present {
+        Some(value_among(seen.values.as_slice(), column))
+    } else {
+        None
+    }
+}
+
+/// The value that the row at the place has in the column, if it is present after the changes.
+#[tactic(auto, using(crate::proofs::ClashLaws::valuing))]
+fn value_at<R: Rows>(
+    left: &[(Place, LeftRow)],
+    place: &Place,
     column: &Ident,
-    pairs: &mut Vec<(Key, Got)>,
-) -> Result<(), NoMemory>
-    ensures { OnOk result (pairs.new.items ≡ pairs.old.items ++ values_of column.now key.now (left_rows row)) }
+    rows: &mut R,
+) -> Result<Option<Got>, Halt>
+    ensures followed { IfOk result (λ value. Follows (R.tables rows.old) (R.tables rows.new) (R.noted rows.old) (R.noted rows.new)
+        (λ t. value ≡ present_value column.now (get (over left.now t) place.now))) }
+    ensures same_app { (schema : List Declaration) → R.is_of rows.old schema → R.is_of rows.new schema }
+    ensures same_tables { R.tables rows.new ≡ R.tables rows.old }
+    ensures same_knows { R.knows rows.new ≡ R.knows rows.old }
+    ensures same_rest { R.rest rows.new ≡ R.rest rows.old }
+    ensures missing { (a : AskValue) → result ≡ Err (halt.Missing a) → R.knows rows.old a ≡ false }
+{
+    match left_at(left, place) {
+        Some(row) => Ok(value_left(row, column)),
+        None => {
+            let seen = ask_row(rows, place.table, &place.key)?;
+            Ok(value_told(&seen, column))
+        }
+    }
+}
+
+/// Adds the key with its value, if it has one.
+fn add_value(key: &Key, value: Option<Got>, pairs: &mut Vec<(Key, Got)>) -> Result<(), NoMemory>
+    ensures { OnOk result (pairs.new.items ≡ pairs.old.items ++ pair_of key.now value) }
 {
     // The check wants to see the type that is inside a key.
     let _val: Option<Val> = None;
-    if let Some(row) = row {
-        if row.present {
-            pairs.push((*key, value_of(&row, column)))?;
-        }
+    if let Some(value) = value {
+        pairs.push((*key, value))?;
     }
     Ok(())
 }
@@ -67,8 +109,8 @@ pub fn present_values<R: Rows>(
 {
     let mut pairs = Vec::new(alloc);
     for key in keys {
-        let row = look(alloc, left, rows, &Place { table, key: *key })?;
-        add_value(key, row, column, &mut pairs)?;
+        let value = value_at(left, &Place { table, key: *key }, column, rows)?;
+        add_value(key, value, &mut pairs)?;
     }
     Ok(pairs)
 }
@@ -91,7 +133,7 @@ fn in_order(value: &Got) -> Ordered
 
 /// The first key that had the value, if one had.
 fn first_key(firsts: &BTreeMap<Ordered, Key>, value: &Ordered) -> Option<Key>
-    ensures { result ≡ get ordered_cmp firsts.now value.now }
+    ensures { result ≡ first_at ordered_cmp firsts.now value.now }
 {
     firsts.get(value).copied()
 }
@@ -102,7 +144,7 @@ fn note_first(
     key: &Key,
     firsts: &mut BTreeMap<Ordered, Key>,
 ) -> Result<(), NoMemory>
-    ensures { OnOk result ((other : OrderedValue) → get ordered_cmp firsts.new other ≡ (if eq_by_cmp ordered_cmp value other then Some key.now else get ordered_cmp firsts.old other)) }
+    ensures { OnOk result ((other : OrderedValue) → first_at ordered_cmp firsts.new other ≡ (if eq_by_cmp ordered_cmp value other then Some key.now else first_at ordered_cmp firsts.old other)) }
 {
     // The check wants to see the types that are inside a value and a key.
     let _val: Option<Val> = None;
