@@ -1,37 +1,72 @@
--- Pairs of keys and values are put one after the other, and the least key that clashes is found.
-use Rattle.std.proofs.Common.{◌≡◌, ◌⊎◌, inl, inr, ⊎_elim, ℕ, ◌+◌, ◌<◌, ◌≤◌, Bool, true, false, cond, List, [], ◌++◌, take, get_or, length, Option, Some, None, slice_get, refl, sym, ap, subst, ◌∙◌, arith}
+-- Pairs of keys and values are put one after the other, and a key clashes where another has its value.
+use Rattle.std.proofs.Common.{◌≡◌, ◌⊎◌, inl, inr, ℕ, ℤ, int_eq, ◌+◌, ◌<◌, ◌≤◌, ◌&&◌, not, Bool, true, false, cond, List, [], ◌∷◌, ◌++◌, take, get_or, length, Option, Some, None, refl, sym, ap, ◌∙◌, arith}
+use Rattle.std.specs.Ordering.{is_eq}
 use Rattle.std.specs.FinMap.{get}
-use Rattle.std.proofs.lemmas.Bool.{cases_eq}
+use Rattle.std.proofs.lemmas.Int.{ints}
+use Rattle.std.proofs.lemmas.Cmp.{eq_by_cmp_equiv}
 use Rattle.std.proofs.lemmas.List.{take_all}
-use Rattle.std.proofs.lemmas.Option.{slice_get_within}
+use Rattle.std.proofs.lemmas.Map.Views.{tells_apart}
 use Rattle.sv_value.specs.declared.values.Key.{Key}
+use Rattle.sv_value.specs.Orders.{key_cmp}
+use Rattle.sv_value.proofs.OrderLaws.{key_total, exact_keys, text_total, exact_texts}
 use Rattle.sv_app.specs.declared.apps.Ident.{Ident}
 use Rattle.sv_app.specs.declared.gots.Got.{Got}
+use Rattle.sv_app.specs.declared.gots.Got.TheVariants.{Num, Text}
 use Rattle.sv_app.specs.declared.places.Place.{Place}
-use Rattle.sv_app.specs.Tables.{Tables}
-use Rattle.sv_app.specs.Valid.{place_at}
+use Rattle.sv_app.specs.Tables.{Row, Tables}
+use Rattle.sv_app.specs.Valid.{value_of, place_at}
 use Rattle.sv_effect.specs.Follows.{Follows}
-use Rattle.sv_effect.specs.Reads.{ReadValue}
+use Rattle.sv_effect.specs.Agrees.{seen_at}
+use Rattle.sv_effect.specs.Reads.{SeenValue, ReadValue}
 use Rattle.sv_effect.proofs.FollowLaws.{quiet, so, next_to}
 use Rattle.sv_check.specs.declared.left.LeftRow.{LeftRow}
-use Rattle.sv_check.specs.Left.{over, left_rows}
-use Rattle.sv_check.specs.Least.{IsLeast, lesser}
-use Rattle.sv_check.specs.Clashes.{Pair, values_of, values_at, has_other, with_clash, Clashes}
-use Rattle.sv_check.proofs.LeastLaws.{least_both, least_same, least_one}
-use Rattle.sv_check.proofs.ListLaws.{get_at}
+use Rattle.sv_check.specs.Left.{over, hides, told_row}
+use Rattle.sv_check.specs.Clashes.{Pair, same_got, present_value, pair_of, values_of, values_at, Clashes}
+use Rattle.sv_check.proofs.LeftLaws.{told_back}
+use Rattle.sv_check.proofs.ListLaws.{Stands, any_at, Passes, any_passes}
+use Rattle.sv_check.proofs.RuleLaws.{clash}
 use Rattle.sv_check.proofs.SetLaws.{flat_more}
+
+-- ---- the value at a place
+
+-- a change left the row
+pub value_left : (o n : Option Tables) (a b : Option (List ReadValue)) (left : List (Place × LeftRow)) (place : Place) (column : Ident) (row : Row) (found : Option Row) (value : Option Got) → n ≡ o → b ≡ a
+    → ((t : Tables) → get (over left t) place ≡ hides found (get t place)) → found ≡ Some row → value ≡ present_value column (Some row)
+    → Follows o n a b (λ t. value ≡ present_value column (get (over left t) place))
+value_left o n a b left place column row found value same stands at is gives =
+    quiet o n a b _ same stands (λ t. gives ∙ ap (present_value column) (sym (at t ∙ ap (λ f. hides f (get t place)) is)))
+
+-- the row before is asked for
+pub value_behind : (o n : Option Tables) (a b : Option (List ReadValue)) (left : List (Place × LeftRow)) (place : Place) (column : Ident) (found : Option Row) (seen : SeenValue) (value : Option Got)
+    → Follows o n a b (λ t. seen_at t (place_at place.table place.key) ≡ seen) → ((t : Tables) → get (over left t) place ≡ hides found (get t place)) → found ≡ None
+    → value ≡ present_value column (told_row seen) → Follows o n a b (λ t. value ≡ present_value column (get (over left t) place))
+value_behind o n a b left place column found seen value f at is gives =
+    so o n a b _ _ f (λ t told. gives ∙ ap (present_value column) (ap told_row (sym told) ∙ told_back (get t place) ∙ sym (at t ∙ ap (λ f. hides f (get t place)) is)))
+
+pub ruleset valuing = (value_left, value_behind)
+
+-- ---- pairs
+
+pair_present : (column : Ident) (key : Key) (row : Option Row) → pair_of key (present_value column row) ≡ values_of column key row
+pair_present column key None = refl
+pair_present column key (Some row) = by row.present
+  where
+    by : (b : Bool) → pair_of key (cond b (Some (value_of row column)) None) ≡ cond b ((key, value_of row column) ∷ []) []
+    by true = refl
+    by false = refl
 
 pub none_paired : (o n : Option Tables) (a b : Option (List ReadValue)) (left : List (Place × LeftRow)) (table : ℕ) (column : Ident) (keys : List Key) (pairs : List Pair) → n ≡ o → b ≡ a → pairs ≡ []
     → Follows o n a b (λ t. pairs ≡ values_at (over left t) table column (take 0 keys))
 none_paired o n a b left table column keys pairs same stands is = quiet o n a b _ same stands (λ t. is)
 
-pub one_paired : (o m n : Option Tables) (a b c : Option (List ReadValue)) (left : List (Place × LeftRow)) (table : ℕ) (column : Ident) (keys : List Key) (i : ℕ) (key : Key) (row : Option LeftRow) (old new : List Pair)
+pub one_paired : (o m n : Option Tables) (a b c : Option (List ReadValue)) (left : List (Place × LeftRow)) (table : ℕ) (column : Ident) (keys : List Key) (i : ℕ) (key : Key) (value : Option Got) (old new : List Pair)
     → i < length keys → key ≡ get_or keys i key
-    → Follows o m a b (λ t. old ≡ values_at (over left t) table column (take i keys)) → Follows m n b c (λ t. get (over left t) (place_at table key) ≡ left_rows row)
-    → new ≡ old ++ values_of column key (left_rows row) → Follows o n a c (λ t. new ≡ values_at (over left t) table column (take (i + 1) keys))
-one_paired o m n a b c left table column keys i key row old new less is f g more =
+    → Follows o m a b (λ t. old ≡ values_at (over left t) table column (take i keys)) → Follows m n b c (λ t. value ≡ present_value column (get (over left t) (place_at table key)))
+    → new ≡ old ++ pair_of key value → Follows o n a c (λ t. new ≡ values_at (over left t) table column (take (i + 1) keys))
+one_paired o m n a b c left table column keys i key value old new less is f g more =
     next_to o m n a b c _ _ _ f g (λ t before looked.
-    more ∙ (λ j. before j ++ values_of column key (sym looked j))
+    more ∙ (λ j. before j ++ pair_of key (looked j))
+    ∙ ap (λ ps. values_at (over left t) table column (take i keys) ++ ps) (pair_present column key (get (over left t) (place_at table key)))
     ∙ ap (λ k. values_at (over left t) table column (take i keys) ++ values_of column k (get (over left t) (place_at table k))) is
     ∙ flat_more (λ k. values_of column k (get (over left t) (place_at table k))) keys i key less)
 
@@ -41,52 +76,78 @@ all_paired o n a b left table column keys i pairs le f = so o n a b _ _ f (λ t 
 
 pub ruleset pairing = (none_paired, all_paired)
 
--- one of the first pairs has the key, and a value that another key has
-pub record ClashesTo (pairs : List Pair) (i : ℕ) (key : Key) : Type 0 where
-  pub number : ℕ
-  pub value : Got
-  pub below : number < i
-  pub at : slice_get pairs number ≡ Some (key, value)
-  pub other : has_other key value pairs ≡ true
+-- ---- a key clashes just where two of the pairs have one value
 
-pub none_clashes : (pairs : List Pair) → IsLeast (ClashesTo pairs 0) None
-none_clashes pairs = λ key c. absurd (omega (arith, c.below))
-
-pub one_clashes : (pairs : List Pair) (i : ℕ) (e : Pair) (found new : Option Key) → i < length pairs → e ≡ get_or pairs i e → IsLeast (ClashesTo pairs i) found → new ≡ with_clash found pairs e.0 e.1
-    → IsLeast (ClashesTo pairs (i + 1)) new
-one_clashes pairs i e found new less is before e_new = subst (IsLeast (ClashesTo pairs (i + 1))) (sym e_new) (split (has_other e.0 e.1 pairs) refl)
+same_values : (g h : Got) → same_got g h ≡ true → g ≡ h
+same_values (Num n) (Num m) e = ap (λ x. Num x) (numbers n m e)
   where
-    at : slice_get pairs i ≡ Some e
-    at = get_at pairs i e less ∙ ap (λ x. Some x) (sym is)
+    numbers : (a b : ℤ) → int_eq a b ≡ true → a ≡ b
+    numbers a b e = grind (arith, ints)
+same_values (Text s) (Text u) e = ap (λ x. Text x) (tells_apart exact_texts s u e)
+same_values (Num n) (Text u) e = absurd cc
+same_values (Text s) (Num m) e = absurd cc
 
-    pair_same : (x y : Pair) → Some x ≡ Some y → x ≡ y
-    pair_same x y h = cc
+values_same : (g : Got) → same_got g g ≡ true
+values_same (Num n) = numbers n
+  where
+    numbers : (a : ℤ) → int_eq a a ≡ true
+    numbers a = grind (arith, ints)
+values_same (Text s) = (eq_by_cmp_equiv text_total).refl s
 
-    earlier : (key : Key) → ClashesTo pairs i key → ClashesTo pairs (i + 1) key
-    earlier key c = record { number = c.number; value = c.value; below = omega (arith, c.below); at = c.at; other = c.other }
+both_of : (a b : Bool) → (a && b) ≡ true → (a ≡ true) × (b ≡ true)
+both_of true true e = (refl, refl)
+both_of true false e = absurd cc
+both_of false b e = absurd cc
 
-    later : (key : Key) → ClashesTo pairs (i + 1) key → ClashesTo pairs i key ⊎ ((key ≡ e.0) × (has_other e.0 e.1 pairs ≡ true))
-    later key c = by (cases_eq c.number i)
-      where
-        by : (c.number ≡ i) ⊎ (c.number ≡ i → ⊥) → ClashesTo pairs i key ⊎ ((key ≡ e.0) × (has_other e.0 e.1 pairs ≡ true))
-        by (inl h) =
-            let same : (key, c.value) ≡ e = pair_same (key, c.value) e (sym c.at ∙ ap (slice_get pairs) h ∙ at) in
-            inr (ap (λ p. p.0) same, subst (λ p. has_other p.0 p.1 pairs ≡ true) same c.other)
-        by (inr h) = inl (record { number = c.number; value = c.value; below = omega (arith, c.below, h); at = c.at; other = c.other })
+both_true : (a b : Bool) → a ≡ true → b ≡ true → (a && b) ≡ true
+both_true true true g h = refl
+both_true true false g h = absurd cc
+both_true false b g h = absurd cc
 
-    split : (b : Bool) → has_other e.0 e.1 pairs ≡ b → IsLeast (ClashesTo pairs (i + 1)) (cond b (lesser found (Some e.0)) found)
-    split true h = least_same (λ k. ClashesTo pairs i k ⊎ (k ≡ e.0)) (ClashesTo pairs (i + 1)) (lesser found (Some e.0)) (least_both (ClashesTo pairs i) (λ k. k ≡ e.0) found (Some e.0) before (least_one e.0))
-        (λ k either. ⊎_elim (earlier k) (λ s. subst (ClashesTo pairs (i + 1)) (sym s) (record { number = i; value = e.1; below = omega arith; at = at; other = h })) either)
-        (λ k c. ⊎_elim (λ x. inl x) (λ x. inr x.0) (later k c))
-    split false h = least_same (ClashesTo pairs i) (ClashesTo pairs (i + 1)) found before earlier (λ k c. ⊎_elim (λ x. x) (λ x. absurd (never (has_other e.0 e.1 pairs) x.1 h)) (later k c))
-      where
-        never : (b : Bool) → b ≡ true → b ≡ false → ⊥
-        never true p q = cc
-        never false p q = cc
+negated : (b : Bool) → not b ≡ true → b ≡ false
+negated true e = absurd cc
+negated false e = refl
 
-pub all_clashes : (pairs : List Pair) (i : ℕ) (found : Option Key) → length pairs ≤ i → IsLeast (ClashesTo pairs i) found → IsLeast (Clashes pairs) found
-all_clashes pairs i found le least = least_same (ClashesTo pairs i) (Clashes pairs) found least
-    (λ k c. record { number = c.number; value = c.value; at = c.at; other = c.other })
-    (λ k c. record { number = c.number; value = c.value; below = omega (arith, le, slice_get_within pairs c.number (k, c.value) c.at); at = c.at; other = c.other })
+negates : (b : Bool) → b ≡ false → not b ≡ true
+negates true e = absurd cc
+negates false e = refl
 
-pub ruleset clashing = (none_clashes, one_clashes, all_clashes)
+pub cases_keys : (a b : Key) → (a ≡ b) ⊎ (a ≡ b → ⊥)
+cases_keys a b = by (is_eq (key_cmp a b)) refl
+  where
+    by : (r : Bool) → is_eq (key_cmp a b) ≡ r → (a ≡ b) ⊎ (a ≡ b → ⊥)
+    by true e = inl (tells_apart exact_keys a b e)
+    by false e = inr (λ same. clash (is_eq (key_cmp a b)) (ap (λ x. is_eq (key_cmp x b)) same ∙ (eq_by_cmp_equiv key_total).refl b) e)
+
+-- the key has a value that another key has
+pub record HasTwo (pairs : List Pair) (key : Key) : Type 0 where
+  pub value : Got
+  pub other : Key
+  pub one : Stands pairs (key, value)
+  pub two : Stands pairs (other, value)
+  pub apart : other ≡ key → ⊥
+
+pub has_two : (pairs : List Pair) (key : Key) → Clashes pairs key → HasTwo pairs key
+has_two pairs key c =
+    let passes : Passes (λ p. same_got p.1 c.value && not (is_eq (key_cmp p.0 key))) pairs = any_passes (λ p. same_got p.1 c.value && not (is_eq (key_cmp p.0 key))) pairs c.other in
+    let tests = both_of (same_got passes.x.1 c.value) (not (is_eq (key_cmp passes.x.0 key))) passes.is in
+    record {
+      value = c.value;
+      other = passes.x.0;
+      one = record { number = c.number; at = c.at };
+      two = record { number = passes.number; at = passes.at ∙ ap (λ v. Some (passes.x.0, v)) (same_values passes.x.1 c.value tests.0) };
+      apart = λ same. clash (is_eq (key_cmp passes.x.0 key)) (ap (λ x. is_eq (key_cmp x key)) same ∙ (eq_by_cmp_equiv key_total).refl key) (negated (is_eq (key_cmp passes.x.0 key)) tests.1);
+    }
+
+pub two_clash : (pairs : List Pair) (key : Key) → HasTwo pairs key → Clashes pairs key
+two_clash pairs key h = record {
+  number = h.one.number;
+  value = h.value;
+  at = h.one.at;
+  other = any_at (λ p. same_got p.1 h.value && not (is_eq (key_cmp p.0 key))) pairs h.two.number (h.other, h.value) h.two.at
+      (both_true (same_got h.value h.value) (not (is_eq (key_cmp h.other key))) (values_same h.value) (negates (is_eq (key_cmp h.other key)) (unlike (is_eq (key_cmp h.other key)) refl)));
+}
+  where
+    unlike : (b : Bool) → is_eq (key_cmp h.other key) ≡ b → b ≡ false
+    unlike true e = absurd (h.apart (tells_apart exact_keys h.other key e))
+    unlike false e = refl

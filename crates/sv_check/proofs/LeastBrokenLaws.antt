@@ -1,8 +1,7 @@
 -- A rule is broken only at candidates, so the least of these at which it is broken is the least of all.
-use Rattle.std.proofs.Common.{◌≡◌, ◌⊎◌, inl, inr, ⊎_elim, ℕ, zero, suc, ◌+◌, ◌<◌, ◌≤◌, ◌||◌, ◌&&◌, ◌==◌, not, Bool, true, false, cond, List, [], ◌∷◌, take, get_or, length, Option, Some, None, slice_get, refl, sym, ap, subst, ◌∙◌, arith, ℤ, int_eq}
-use Rattle.std.specs.Ordering.{is_lt, is_eq, eq_by_cmp}
+use Rattle.std.proofs.Common.{◌≡◌, ◌⊎◌, inl, inr, ⊎_elim, ℕ, zero, suc, ◌+◌, ◌<◌, ◌≤◌, ◌||◌, ◌&&◌, ◌==◌, not, Bool, true, false, cond, List, [], ◌∷◌, take, get_or, length, Option, Some, None, slice_get, refl, sym, ap, subst, ◌∙◌, arith}
+use Rattle.std.specs.Ordering.{is_lt, eq_by_cmp}
 use Rattle.std.specs.FinMap.{get, get-insert}
-use Rattle.std.proofs.lemmas.Int.{ints}
 use Rattle.std.proofs.lemmas.Bool.Decides.{nat_tests}
 use Rattle.std.proofs.lemmas.Cmp.{eq_by_cmp_equiv}
 use Rattle.std.proofs.lemmas.List.{take_more, take_all}
@@ -10,10 +9,9 @@ use Rattle.std.proofs.lemmas.List.Folds.{list_any-append}
 use Rattle.std.proofs.lemmas.Map.Views.{tells_apart}
 use Rattle.sv_value.specs.declared.values.Key.{Key}
 use Rattle.sv_value.specs.Orders.{key_cmp}
-use Rattle.sv_value.proofs.OrderLaws.{key_total, exact_keys, text_total, exact_texts}
+use Rattle.sv_value.proofs.OrderLaws.{key_total, exact_keys}
 use Rattle.sv_app.specs.declared.apps.Ident.{Ident}
 use Rattle.sv_app.specs.declared.gots.Got.{Got}
-use Rattle.sv_app.specs.declared.gots.Got.TheVariants.{Num, Text}
 use Rattle.sv_app.specs.declared.places.Place.{Place}
 use Rattle.sv_app.specs.declared.schemas.Inv.{Inv}
 use Rattle.sv_app.specs.declared.schemas.InvBody.{InvBody}
@@ -29,10 +27,11 @@ use Rattle.sv_effect.proofs.FollowLaws.{quiet, so, next_to}
 use Rattle.sv_check.specs.declared.left.LeftRow.{LeftRow}
 use Rattle.sv_check.specs.Left.{over, left_row, is_left}
 use Rattle.sv_check.specs.Least.{IsLeast, lesser, Says, BrokenAt, IsAfter, has_key, AreCandidates, IsOwn, has_absent, PlaceSays, LeastAmong, LeastBroken, is_touched, walks}
-use Rattle.sv_check.specs.Clashes.{Pair, same_got, values_of, values_at, Clashes}
+use Rattle.sv_check.specs.Clashes.{Pair, values_of, values_at, Clashes}
 use Rattle.sv_check.proofs.BrokenLaws.{not_left, from_present}
+use Rattle.sv_check.proofs.ClashLaws.{HasTwo, has_two, two_clash, cases_keys}
 use Rattle.sv_check.proofs.LeastLaws.{least_both, least_same, least_one}
-use Rattle.sv_check.proofs.ListLaws.{Stands, any_at, Passes, any_passes, flat_stands, stands_in}
+use Rattle.sv_check.proofs.ListLaws.{Stands, Passes, any_passes, flat_stands, stands_in}
 use Rattle.sv_check.proofs.RuleLaws.{clash}
 use Rattle.sv_check.proofs.WalkLaws.{other_table}
 
@@ -245,40 +244,6 @@ pair_of_row : (t : Tables) (table : ℕ) (column : Ident) (key : Key) (row : Row
 pair_of_row t table column key row kept present = subst (λ o. Stands (values_of column key o) (key, value_of row column)) (sym kept)
     (subst (λ b. Stands {A = Pair} (cond b ((key, value_of row column) ∷ []) []) (key, value_of row column)) (sym present) (record { number = 0; at = refl }))
 
-same_values : (g h : Got) → same_got g h ≡ true → g ≡ h
-same_values (Num n) (Num m) e = ap (λ x. Num x) (numbers n m e)
-  where
-    numbers : (a b : ℤ) → int_eq a b ≡ true → a ≡ b
-    numbers a b e = grind (arith, ints)
-same_values (Text s) (Text u) e = ap (λ x. Text x) (tells_apart exact_texts s u e)
-same_values (Num n) (Text u) e = absurd cc
-same_values (Text s) (Num m) e = absurd cc
-
-values_same : (g : Got) → same_got g g ≡ true
-values_same (Num n) = numbers n
-  where
-    numbers : (a : ℤ) → int_eq a a ≡ true
-    numbers a = grind (arith, ints)
-values_same (Text s) = (eq_by_cmp_equiv text_total).refl s
-
-both_of : (a b : Bool) → (a && b) ≡ true → (a ≡ true) × (b ≡ true)
-both_of true true e = (refl, refl)
-both_of true false e = absurd cc
-both_of false b e = absurd cc
-
-both_true : (a b : Bool) → a ≡ true → b ≡ true → (a && b) ≡ true
-both_true true true g h = refl
-both_true true false g h = absurd cc
-both_true false b g h = absurd cc
-
-negated : (b : Bool) → not b ≡ true → b ≡ false
-negated true e = absurd cc
-negated false e = refl
-
-negates : (b : Bool) → b ≡ false → not b ≡ true
-negates true e = absurd cc
-negates false e = refl
-
 candidate_stands : (keys : List Key) (k : Key) → has_key k keys ≡ true → Stands keys k
 candidate_stands keys k h =
     let passes : Passes (eq_by_cmp key_cmp k) keys = any_passes (eq_by_cmp key_cmp k) keys h in
@@ -310,35 +275,19 @@ clash_least schema left t table column keys pairs found candidates is least afte
 
     to : (k : Key) → Clashes pairs k → BrokenAt schema (over left t) table (Different column) k
     to k c =
-        let mine : RowWith (over left t) table column k c.value = row_at c.number k c.value c.at in
-        let passes : Passes (λ p. same_got p.1 c.value && not (is_eq (key_cmp p.0 k))) pairs = any_passes (λ p. same_got p.1 c.value && not (is_eq (key_cmp p.0 k))) pairs c.other in
-        let tests = both_of (same_got passes.x.1 c.value) (not (is_eq (key_cmp passes.x.0 k))) passes.is in
-        let other : RowWith (over left t) table column passes.x.0 passes.x.1 = row_at passes.number passes.x.0 passes.x.1 passes.at in
-        record {
-          row = mine.row;
-          kept = mine.kept;
-          breaks = λ holds.
-              let same : passes.x.0 ≡ k = holds mine.present passes.x.0 other.row other.kept other.present (other.is ∙ same_values passes.x.1 c.value tests.0 ∙ sym mine.is) in
-              clash (is_eq (key_cmp passes.x.0 k)) (ap (λ x. is_eq (key_cmp x k)) same ∙ key_itself k) (negated (is_eq (key_cmp passes.x.0 k)) tests.1);
-        }
+        let both : HasTwo pairs k = has_two pairs k c in
+        let mine : RowWith (over left t) table column k both.value = row_at both.one.number k both.value both.one.at in
+        let its : RowWith (over left t) table column both.other both.value = row_at both.two.number both.other both.value both.two.at in
+        record { row = mine.row; kept = mine.kept; breaks = λ holds. both.apart (holds mine.present both.other its.row its.kept its.present (its.is ∙ sym mine.is)) }
 
     from : (k : Key) → BrokenAt schema (over left t) table (Different column) k → (Clashes pairs k → ⊥) → ⊥
-    from k broken none_clashes = broken.breaks (λ present other with_it kept there equal. by present other with_it kept there equal (is_eq (key_cmp other k)) refl)
-      where
-        by : broken.row.present ≡ true → (other : Key) (with_it : Row) → IsKept (over left t) table other with_it → with_it.present ≡ true → value_of with_it column ≡ value_of broken.row column
-            → (b : Bool) → is_eq (key_cmp other k) ≡ b → other ≡ k
-        by present other with_it kept there equal true e = tells_apart exact_keys other k e
-        by present other with_it kept there equal false e =
-            let mine : Stands pairs (k, value_of broken.row column) = pair_at k broken.row broken.kept present in
-            let its : Stands pairs (other, value_of with_it column) = pair_at other with_it kept there in
-            absurd (none_clashes (record {
-              number = mine.number;
-              value = value_of broken.row column;
-              at = mine.at;
-              other = any_at (λ p. same_got p.1 (value_of broken.row column) && not (is_eq (key_cmp p.0 k))) pairs its.number (other, value_of with_it column) its.at
-                  (both_true (same_got (value_of with_it column) (value_of broken.row column)) (not (is_eq (key_cmp other k)))
-                  (ap (λ g. same_got g (value_of broken.row column)) equal ∙ values_same (value_of broken.row column)) (negates (is_eq (key_cmp other k)) e));
-            }))
+    from k broken none_clashes = broken.breaks (λ present other with_it kept there equal. ⊎_elim (λ same. same) (λ apart. absurd (none_clashes (two_clash pairs k (record {
+      value = value_of broken.row column;
+      other = other;
+      one = pair_at k broken.row broken.kept present;
+      two = subst (λ v. Stands pairs (other, v)) equal (pair_at other with_it kept there);
+      apart = apart;
+    })))) (cases_keys other k))
 
 -- ---- as the calls follow each other
 

@@ -18,7 +18,7 @@ left_here e es t p h = get-insert place_total (over es t) e.0 (left_row e.1) p �
 pub left_past : (e : Place × LeftRow) (es : List (Place × LeftRow)) (t : Tables) (p : Place) → is_place p e.0 ≡ false → get (over (e ∷ es) t) p ≡ get (over es t) p
 left_past e es t p h = get-insert place_total (over es t) e.0 (left_row e.1) p ∙ ap (λ b. cond b (Some (left_row e.1)) (get (over es t) p)) h
 
-told_back : (o : Option Row) → told_row (seen_in o) ≡ o
+pub told_back : (o : Option Row) → told_row (seen_in o) ≡ o
 told_back None = refl
 told_back (Some row) = refl
 

@@ -5,6 +5,7 @@ pub mod ChangeLaws
 pub mod ClashLaws
 pub mod FailLaws
 pub mod FindLaws
+pub mod FirstLaws
 pub mod InitialLaws
 pub mod LeastBrokenLaws
 pub mod LeastLaws

@@ -9,6 +9,7 @@ ghost use Rattle.sv_effect.specs.declared.reads.Ask.{Ask as AskValue};
 ghost use Rattle.sv_effect.specs.declared.reads.Halt.TheVariants as halt;
 ghost use Rattle.sv_effect.specs.Agrees.{is_present};
 ghost use Rattle.sv_effect.specs.Follows.{Follows};
+ghost use Rattle.sv_effect.specs.RunValues.{column as value_among};
 ghost use Rattle.sv_check.specs.Bounds.{IsWordGot, AreBounded, LeftBounded};
 ghost use Rattle.sv_check.specs.Left.{over, left_row, is_left};
 ghost use Rattle.sv_check.specs.Least.{Says, has_absent, IsOwn, RowSays, PlaceSays};
@@ -22,16 +23,21 @@ use sv_effect::{Halt, Rows, ask_row};
 use sv_value::{Key, Val};
 
 /// The value of a column; one that isn't there counts as zero.
-pub fn value_of(row: &LeftRow, column: &Ident) -> Got
-    ensures { result ≡ value_of (left_row row.now) column.now }
+pub fn value_among(values: &[Got], column: &Ident) -> Got
+    ensures { result ≡ value_among values.now column.now.num }
 {
-    let values = row.values.items();
     let place = column.num as usize;
     if place < values.len() {
         values[place]
     } else {
         Got::Num(0)
     }
+}
+
+fn value_of(row: &LeftRow, column: &Ident) -> Got
+    ensures { result ≡ value_of (left_row row.now) column.now }
+{
+    value_among(row.values.items(), column)
 }
 
 /// A side of a check.

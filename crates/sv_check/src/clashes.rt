@@ -1,48 +1,90 @@
 //! Uniqueness after changes.
 
-ghost use Rattle.std.specs.Prelude.{◌≡◌, ◌++◌, false, List, Err, IfOk, OnOk};
+ghost use Rattle.std.specs.Prelude.{◌≡◌, ◌++◌, false, List, Err, Some, IfOk, OnOk, if◌then◌else◌};
+ghost use Rattle.std.specs.Ordering.{eq_by_cmp};
+ghost use Rattle.std.specs.BTreeMap.{get as first_at};
+ghost use Rattle.std.specs.FinMap.{get};
 ghost use Rattle.sv_app.specs.Schema.{Declaration};
 ghost use Rattle.sv_effect.specs.declared.reads.Ask.{Ask as AskValue};
 ghost use Rattle.sv_effect.specs.declared.reads.Halt.TheVariants as halt;
 ghost use Rattle.sv_effect.specs.Follows.{Follows};
-ghost use Rattle.sv_check.specs.Clashes.{same_got, has_other, values_of, values_at, with_clash, Clashes};
+ghost use Rattle.sv_effect.specs.Reads.{seen_of};
+ghost use Rattle.sv_check.specs.declared.clashes.Ordered.{Ordered as OrderedValue};
+ghost use Rattle.sv_check.specs.Clashes.{present_value, pair_of, values_at, in_order, ordered_cmp, with_both, Clashes};
 ghost use Rattle.sv_check.specs.Least.{IsLeast};
-ghost use Rattle.sv_check.specs.Left.{over, left_rows};
+ghost use Rattle.sv_check.specs.Left.{over, left_row, told_row};
 
-use crate::broken::value_of;
+use crate::broken::value_among;
 use crate::keys::lesser;
-use crate::left::{LeftRow, look};
+use crate::left::{LeftRow, left_at};
 use std::alloc::Global;
+use std::collections::BTreeMap;
 use sv_app::{Got, Ident, Place};
-use sv_effect::{Halt, Rows};
-use sv_value::{Key, NoMemory, Val};
+use sv_effect::{Halt, Rows, Seen, ask_row};
+use sv_value::{Key, NoMemory, Text, Val};
 
-/// Whether they are one value.
-fn same_got(one: &Got, other: &Got) -> bool
-    ensures { result ≡ same_got one.now other.now }
+/// A value as the key of a map. A number has no text, and a text has the number zero.
+#[derive(Clone, Copy, Debug, PartialEq, Eq, PartialOrd, Ord)]
+pub struct Ordered {
+    pub number: i128,
+    pub text: Option<Text>,
+}
+
+/// The value that the row has in the column, if it is present.
+fn value_left(row: &LeftRow, column: &Ident) -> Option<Got>
+    ensures { result ≡ present_value column.now (Some (left_row row.now)) }
 {
-    match (one, other) {
-        (Got::Num(one), Got::Num(other)) => one == other,
-        (Got::Text(one), Got::Text(other)) => one.cmp(other).is_eq(),
-        (Got::Num(_), Got::Text(_)) | (Got::Text(_), Got::Num(_)) => false,
+    if row.present {
+        Some(value_among(row.values.items(), column))
+    } else {
+        None
     }
 }
 
-/// Adds the row's key and value, if the row is present.
-fn add_value(
-    key: &Key,
-    row: Option<LeftRow>,
+/// The value that a row that was told of has in the column, if it is present.
+fn value_told(seen: &Seen, column: &Ident) -> Option<Got>
+    ensures { result ≡ present_value column.now (told_row (seen_of seen.now)) }
+{
+    if seen.kept && seen.present {
+        Some(value_among(seen.values.as_slice(), column))
+    } else {
+        None
+    }
+}
+
+/// The value that the row at the place has in the column, if it is present after the changes.
+#[tactic(auto, using(crate::proofs::ClashLaws::valuing))]
+fn value_at<R: Rows>(
+    left: &[(Place, LeftRow)],
+    place: &Place,
     column: &Ident,
-    pairs: &mut Vec<(Key, Got)>,
-) -> Result<(), NoMemory>
-    ensures { OnOk result (pairs.new.items ≡ pairs.old.items ++ values_of column.now key.now (left_rows row)) }
+    rows: &mut R,
+) -> Result<Option<Got>, Halt>
+    ensures followed { IfOk result (λ value. Follows (R.tables rows.old) (R.tables rows.new) (R.noted rows.old) (R.noted rows.new)
+        (λ t. value ≡ present_value column.now (get (over left.now t) place.now))) }
+    ensures same_app { (schema : List Declaration) → R.is_of rows.old schema → R.is_of rows.new schema }
+    ensures same_tables { R.tables rows.new ≡ R.tables rows.old }
+    ensures same_knows { R.knows rows.new ≡ R.knows rows.old }
+    ensures same_rest { R.rest rows.new ≡ R.rest rows.old }
+    ensures missing { (a : AskValue) → result ≡ Err (halt.Missing a) → R.knows rows.old a ≡ false }
+{
+    match left_at(left, place) {
+        Some(row) => Ok(value_left(row, column)),
+        None => {
+            let seen = ask_row(rows, place.table, &place.key)?;
+            Ok(value_told(&seen, column))
+        }
+    }
+}
+
+/// Adds the key with its value, if it has one.
+fn add_value(key: &Key, value: Option<Got>, pairs: &mut Vec<(Key, Got)>) -> Result<(), NoMemory>
+    ensures { OnOk result (pairs.new.items ≡ pairs.old.items ++ pair_of key.now value) }
 {
     // The check wants to see the type that is inside a key.
     let _val: Option<Val> = None;
-    if let Some(row) = row {
-        if row.present {
-            pairs.push((*key, value_of(&row, column)))?;
-        }
+    if let Some(value) = value {
+        pairs.push((*key, value))?;
     }
     Ok(())
 }
@@ -67,42 +109,74 @@ pub fn present_values<R: Rows>(
 {
     let mut pairs = Vec::new(alloc);
     for key in keys {
-        let row = look(alloc, left, rows, &Place { table, key: *key })?;
-        add_value(key, row, column, &mut pairs)?;
+        let value = value_at(left, &Place { table, key: *key }, column, rows)?;
+        add_value(key, value, &mut pairs)?;
     }
     Ok(pairs)
 }
 
-/// Whether another key has the value.
-fn has_other(pairs: &[(Key, Got)], key: &Key, value: &Got) -> bool
-    ensures { result ≡ has_other key.now value.now pairs.now }
+/// The value as the key of a map.
+fn in_order(value: &Got) -> Ordered
+    ensures { result ≡ in_order value.now }
 {
-    for (other, held) in pairs {
-        if same_got(held, value) && !other.cmp(key).is_eq() {
-            return true;
-        }
+    match value {
+        Got::Num(number) => Ordered {
+            number: *number,
+            text: None,
+        },
+        Got::Text(text) => Ordered {
+            number: 0,
+            text: Some(*text),
+        },
     }
-    false
 }
 
-fn with_clash(found: Option<Key>, pairs: &[(Key, Got)], key: &Key, value: &Got) -> Option<Key>
-    ensures { result ≡ with_clash found pairs.now key.now value.now }
+/// The first key that had the value, if one had.
+fn first_key(firsts: &BTreeMap<Ordered, Key>, value: &Ordered) -> Option<Key>
+    ensures { result ≡ first_at ordered_cmp firsts.now value.now }
 {
-    if has_other(pairs, key, value) {
-        lesser(found, Some(*key))
-    } else {
+    firsts.get(value).copied()
+}
+
+/// Notes the key as the first that has the value.
+fn note_first(
+    value: Ordered,
+    key: &Key,
+    firsts: &mut BTreeMap<Ordered, Key>,
+) -> Result<(), NoMemory>
+    ensures { OnOk result ((other : OrderedValue) → first_at ordered_cmp firsts.new other ≡ (if eq_by_cmp ordered_cmp value other then Some key.now else first_at ordered_cmp firsts.old other)) }
+{
+    // The check wants to see the types that are inside a value and a key.
+    let _val: Option<Val> = None;
+    let _text: Option<Text> = None;
+    firsts.insert(value, *key)?;
+    Ok(())
+}
+
+/// The least of the key found so far and of these two, unless they are one.
+fn with_both(found: Option<Key>, first: &Key, key: &Key) -> Option<Key>
+    ensures { result ≡ with_both found first.now key.now }
+{
+    if first.cmp(key).is_eq() {
         found
+    } else {
+        lesser(lesser(found, Some(*first)), Some(*key))
     }
 }
 
 /// The least key with a value that another key has.
-#[tactic(auto, using(crate::proofs::ClashLaws::clashing))]
-pub fn least_clash(pairs: &[(Key, Got)]) -> Option<Key>
-    ensures { IsLeast (Clashes pairs.now) result }
+#[tactic(auto, using(crate::proofs::FirstLaws::clashing))]
+pub fn least_clash(alloc: Global, pairs: &[(Key, Got)]) -> Result<Option<Key>, NoMemory>
+    ensures { IfOk result (λ found. IsLeast (Clashes pairs.now) found) }
 {
+    let mut firsts = BTreeMap::new(alloc);
     let mut found = None;
     for (key, value) in pairs {
-        found = with_clash(found, pairs, key, value);
+        let value = in_order(value);
+        match first_key(&firsts, &value) {
+            Some(first) => found = with_both(found, &first, key),
+            None => note_first(value, key, &mut firsts)?,
+        }
     }
-    found
+    Ok(found)
 }

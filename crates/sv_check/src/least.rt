@@ -114,7 +114,8 @@ pub fn least_broken<R: Rows>(
             }
             let keys = candidates(alloc, left, table, true, rows)?;
             let pairs = present_values(alloc, left, table, col, &keys, rows)?;
-            Ok(least_clash(&pairs))
+            let found = least_clash(alloc, &pairs)?;
+            Ok(found)
         }
         InvBody::Check(_) | InvBody::List { .. } | InvBody::Refers { .. } => {
             let keys = candidates(alloc, left, table, walks(inv, left), rows)?;
