@@ -39,8 +39,9 @@ fn present<R: Rows>(
 {
     let mut keys = List::new(alloc);
     walk(&mut keys, rows, table, None)?;
-    let left = lay_all(alloc, own, table, keys)?;
-    Ok(left)
+    let mut left = keys.into_vec();
+    lay_all(own, table, &mut left)?;
+    Ok(List::from_vec(left))
 }
 
 fn values_of(alloc: Global, found: Option<OwnRow>) -> List<Got>
