@@ -38,7 +38,7 @@ fn present<R: Rows>(
     ensures missing { (a : AskValue) → result ≡ Err (halt.Missing a) → R.knows rows.old a ≡ false }
 {
     let mut keys = List::new(alloc);
-    walk(&mut keys, rows, table, None)?;
+    walk(&mut keys, rows, table)?;
     let mut left = keys.into_vec();
     lay_all(own, table, &mut left)?;
     Ok(List::from_vec(left))
