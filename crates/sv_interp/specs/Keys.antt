@@ -1,7 +1,6 @@
 -- The keys at which a test holds, from one to the next.
 use Rattle.std.specs.Prelude.{◌≡◌, ◌==◌, ◌<◌, ◌≤◌, ℕ, Bool, true, false, List, [], ◌∷◌, ◌++◌, length, Option, Some, None, if◌then◌else◌}
 use Rattle.std.specs.List.{insert, remove}
-use Rattle.std.specs.Borrow.{Bor}
 use Rattle.std.specs.Ordering.{is_lt}
 use Rattle.std.specs.declared.cmp.Ordering.{Ordering}
 use Rattle.std.specs.declared.cmp.Ordering.TheVariants.{Less, Equal, Greater}
@@ -63,8 +62,3 @@ pub record IsMissingAt (j : Key) (ks : List Key) (at : ℕ) : Type 0 where
 -- the keys of present rows of a table, after a row was written
 abbrev pub laid : Place × OwnRow → ℕ → List Key → List Key
 laid e table ks = if table == e.0.table then (if e.1.present then with_key e.0.key ks else without_key e.0.key ks) else ks
-
--- a list of keys by the first and the others
-abbrev pub SplitsKeys : List Key → Option (Bor Key × Bor (List Key)) → Type 0
-SplitsKeys ks None = ks ≡ []
-SplitsKeys ks (Some p) = ks ≡ p.0.now ∷ p.1.now

@@ -1,14 +1,13 @@
 ghost use Rattle.std.specs.Prelude.{◌≡◌, IfOk, IfErr, OnOk};
 ghost use Rattle.sv_app.specs.Tables.{Tables};
-ghost use Rattle.sv_effect.specs.Run.{kept_if, present_keys};
+ghost use Rattle.sv_effect.specs.Run.{present_keys};
 ghost use Rattle.sv_interp.specs.Keys.{with_key, without_key, laid, StandsAt, IsMissingAt};
 ghost use Rattle.sv_interp.specs.Machine.{over};
 
-use crate::slots::prepend;
 use crate::states::OwnRow;
 use std::cmp::Ordering;
 use sv_app::Place;
-use sv_value::{Key, List, NoMemory, Val};
+use sv_value::{Key, NoMemory, Val};
 
 /// Where a key stands among keys in order, or else where it would be put.
 #[tactic(auto, using(crate::proofs::SpotLaws::spotting))]
@@ -79,18 +78,5 @@ pub fn lay_all(own: &[(Place, OwnRow)], table: u16, keys: &mut Vec<Key>) -> Resu
             lay_all(rest, table, keys)?;
             lay(first, table, keys)
         }
-    }
-}
-
-/// The keys, with one before them if it is kept.
-pub fn kept_if(holds: bool, key: &Key, keys: List<Key>) -> Result<List<Key>, NoMemory>
-    ensures { IfOk result (λ left. left ≡ kept_if holds key.now keys) }
-{
-    if holds {
-        let first: Val = key.first;
-        let second: Option<Val> = key.second;
-        prepend(Key { first, second }, keys)
-    } else {
-        Ok(keys)
     }
 }
