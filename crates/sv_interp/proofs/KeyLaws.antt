@@ -180,16 +180,30 @@ walk_keys t table ks h =
     (walk_along (found table (entries t)) (is_present t table) None (present_keys t table)
     (λ k a. ap (λ o. (seen_in o).present) (sym (get-entries t (place_at table k)))) (keys_walk table (entries t) (entries_sorted t)))
 
-pub walk_ends : (o n : Option Tables) (a b : Option (List ReadValue)) (table : ℕ) (after next : Option Key) (old : List Key)
-    → Follows o n a b (λ t. IsNextKey t table after next) → next ≡ None → Walked o n a b table after old old
-walk_ends o n a b table after next old f e = record { keys = []; grown = sym (append-nil old); ran = follow.so o n a b _ _ f (λ t h. subst (λ x. IsNextKey t table after x) e h) }
+-- Keys were walked from one to the next up to a key, and put at the end: a walk that goes on from that key is one with them before it.
+pub record WalkedTo (told_before told_now : Option Tables) (before now : Option (List ReadValue)) (table : ℕ) (after to : Option Key) (old new : List Key) : Type 0 where
+  pub keys : List Key
+  pub grown : new ≡ old ++ keys
+  pub ran : Follows told_before told_now before now (λ t. (more : List Key) → Walks (is_present t table) to more → Walks (is_present t table) after (keys ++ more))
 
-pub walk_goes : (o m n : Option Tables) (a b c : Option (List ReadValue)) (table : ℕ) (after next : Option Key) (k : Key) (old mid new : List Key)
-    → Follows o m a b (λ t. IsNextKey t table after next) → next ≡ Some k → mid ≡ old ++ k ∷ [] → Walked m n b c table (Some k) mid new → Walked o n a c table after old new
-walk_goes o m n a b c table after next k old mid new f e i g = record {
-  keys = k ∷ g.keys;
-  grown = g.grown ∙ ap (λ l. l ++ g.keys) i ∙ append_assoc old (k ∷ []) g.keys;
-  ran = follow.next_to o m n a b c _ _ _ f g.ran (λ t h j. (subst (λ x. IsNextKey t table after x) e h, j));
+pub walk_starts : (o n : Option Tables) (a b : Option (List ReadValue)) (table : ℕ) (after : Option Key) (old new : List Key) → n ≡ o → b ≡ a → new ≡ old → WalkedTo o n a b table after after old new
+walk_starts o n a b table after old new same stands e = record { keys = []; grown = e ∙ sym (append-nil old); ran = follow.quiet o n a b _ same stands (λ t more walk. walk) }
+
+pub walk_goes : (o m n : Option Tables) (a b c : Option (List ReadValue)) (table : ℕ) (after to next : Option Key) (k : Key) (old mid new : List Key)
+    → WalkedTo o m a b table after to old mid → Follows m n b c (λ t. IsNextKey t table to next) → next ≡ Some k → new ≡ mid ++ k ∷ [] → WalkedTo o n a c table after (Some k) old new
+walk_goes o m n a b c table after to next k old mid new g f e i = record {
+  keys = g.keys ++ k ∷ [];
+  grown = i ∙ ap (λ l. l ++ k ∷ []) g.grown ∙ append_assoc old g.keys (k ∷ []);
+  ran = follow.next_to o m n a b c _ _ _ g.ran f (λ t walked is more walk.
+      subst (Walks (is_present t table) after) (sym (append_assoc g.keys (k ∷ []) more)) (walked (k ∷ more) (subst (λ x. IsNextKey t table to x) e is, walk)));
 }
 
-pub ruleset walking = (walk_ends, walk_goes)
+pub walk_ends : (o m n : Option Tables) (a b c : Option (List ReadValue)) (table : ℕ) (after to next : Option Key) (old new : List Key)
+    → WalkedTo o m a b table after to old new → Follows m n b c (λ t. IsNextKey t table to next) → next ≡ None → Walked o n a c table after old new
+walk_ends o m n a b c table after to next old new g f e = record {
+  keys = g.keys;
+  grown = g.grown;
+  ran = follow.next_to o m n a b c _ _ _ g.ran f (λ t walked is. subst (Walks (is_present t table) after) (append-nil g.keys) (walked [] (subst (λ x. IsNextKey t table to x) e is)));
+}
+
+pub ruleset walking = (walk_starts, walk_goes, walk_ends)

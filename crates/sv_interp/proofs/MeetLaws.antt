@@ -1,5 +1,6 @@
 -- Which keys of present rows meet a condition.
-use Rattle.std.proofs.Common.{◌≡◌, ℕ, Bool, List, [], ◌∷◌, ◌++◌, Option, Some, None, refl, sym, ap, ◌∙◌}
+use Rattle.std.proofs.Common.{◌≡◌, ℕ, ◌<◌, ◌≤◌, ◌+◌, Bool, true, false, List, [], ◌∷◌, ◌++◌, drop, get_or, length, Option, Some, None, refl, sym, ap, ◌∙◌, append_assoc, append-nil}
+use Rattle.std.proofs.lemmas.List.{drop_more, drop_all}
 use Rattle.std.specs.FinMap.{get}
 use Rattle.sv_value.specs.declared.values.Key.{Key}
 use Rattle.sv_app.specs.declared.gots.Got.{Got}
@@ -9,7 +10,7 @@ use Rattle.sv_app.specs.Trees.{Test}
 use Rattle.sv_effect.specs.Follows.{Follows}
 use Rattle.sv_effect.specs.Reads.{ReadValue}
 use Rattle.sv_effect.specs.Run.{with_row, values_at, kept_if, meeting_test, meeting, only, present_keys}
-use Rattle.sv_effect.specs.RunValues.{Scope as RunScope, Evaluated, Gives, then_value, truth_of}
+use Rattle.sv_effect.specs.RunValues.{Scope as RunScope, Evaluated, Leaves, Gives, then_value, truth_of}
 use Rattle.sv_effect.proofs.FollowLaws as follow
 use Rattle.sv_interp.specs.declared.scopes.Scope.{Scope}
 use Rattle.sv_interp.specs.declared.states.OwnRow.{OwnRow}
@@ -30,36 +31,62 @@ row_meets o n a b own p r test found values s u ev f e i h =
 abbrev row_fact : List (Place × OwnRow) → ℕ → ℕ → Test → Key → RunScope → Evaluated Bool → Tables → Type 0
 row_fact own r table test k s ev t = truth_of test (with_row r (values_at (get (over own t) (record { table = table; key = k }))) s) ≡ ev
 
-abbrev rest_of : ℕ → ℕ → Test → Tables → Key → List Key → Bool → RunScope → Evaluated (List Key)
-rest_of r table test t k ks holds u = then_value (meeting_test r table test t ks u) (λ met z. Gives (kept_if holds k met) z)
+-- keys that met a condition, before those of the others that meet it
+abbrev pub led_by : List Key → Evaluated (List Key) → Evaluated (List Key)
+led_by met ev = then_value ev (λ more z. Gives (met ++ more) z)
 
-pub none_meet : (o n : Option Tables) (a b : Option (List ReadValue)) (own : List (Place × OwnRow)) (r table : ℕ) (test : Test) (ks left : List Key) (s : Scope)
-    → n ≡ o → b ≡ a → ks ≡ [] → left ≡ [] → Follows o n a b (λ t. meeting_test r table test (over own t) ks (scope_of s) ≡ evaluated (Some left) s)
-none_meet o n a b own r table test ks left s same stands e f = follow.quiet o n a b _ same stands (λ t. ap (λ l. meeting_test r table test (over own t) l (scope_of s)) e ∙ ap (λ l. Gives l (scope_of s)) (sym f))
+led_by_none : (ev : Evaluated (List Key)) → ev ≡ led_by [] ev
+led_by_none Leaves = refl
+led_by_none (Gives more z) = refl
 
-pub first_leaves : (o n : Option Tables) (a b : Option (List ReadValue)) (own : List (Place × OwnRow)) (r table : ℕ) (test : Test) (k : Key) (rest ks : List Key) (s u : Scope) (holds : Option Bool)
-    → ks ≡ k ∷ rest → Follows o n a b (row_fact own r table test k (scope_of s) (evaluated holds u)) → holds ≡ None
-    → Follows o n a b (λ t. meeting_test r table test (over own t) ks (scope_of s) ≡ evaluated {A = List Key} None u)
-first_leaves o n a b own r table test k rest ks s u holds e f z =
-    follow.so o n a b _ _ f (λ t h. ap (λ l. meeting_test r table test (over own t) l (scope_of s)) e ∙ ap (λ q. then_value q (rest_of r table test (over own t) k rest)) (h ∙ ap (λ d. evaluated d u) z))
+-- a key that was kept stands behind those before it
+led_by_more : (met new : List Key) (k : Key) (h : Bool) → new ≡ met ++ kept_if h k [] → (ev : Evaluated (List Key)) → led_by met (then_value ev (λ more z. Gives (kept_if h k more) z)) ≡ led_by new ev
+led_by_more met new k h e Leaves = refl
+led_by_more met new k true e (Gives more z) = ap (λ l. Gives l z) (sym (ap (λ l. l ++ more) e ∙ append_assoc met (k ∷ []) more))
+led_by_more met new k false e (Gives more z) = ap (λ l. Gives (l ++ more) z) (sym (e ∙ append-nil met))
 
-pub rest_leaves : (o m n : Option Tables) (a b c : Option (List ReadValue)) (own : List (Place × OwnRow)) (r table : ℕ) (test : Test) (k : Key) (rest ks : List Key) (s u w : Scope) (holds : Option Bool) (h : Bool) (met : Option (List Key))
-    → ks ≡ k ∷ rest → Follows o m a b (row_fact own r table test k (scope_of s) (evaluated holds u)) → holds ≡ Some h
-    → Follows m n b c (λ t. meeting_test r table test (over own t) rest (scope_of u) ≡ evaluated met w) → met ≡ None
+-- Some of the keys were judged, and these are left: of all keys those meet the condition that met it so far, and those that are left and meet it.
+pub record Judged (own : List (Place × OwnRow)) (r table : ℕ) (test : Test) (ks left met : List Key) (told_before told_now : Option Tables) (before now : Option (List ReadValue)) (s s' : Scope) : Type 0 where
+  pub ran : Follows told_before told_now before now (λ t. meeting_test r table test (over own t) ks (scope_of s) ≡ led_by met (meeting_test r table test (over own t) left (scope_of s')))
+
+pub none_judged : (own : List (Place × OwnRow)) (r table : ℕ) (test : Test) (ks met : List Key) (o n : Option Tables) (a b : Option (List ReadValue)) (s u : Scope)
+    → n ≡ o → b ≡ a → u ≡ s → met ≡ [] → Judged own r table test ks ks met o n a b s u
+none_judged own r table test ks met o n a b s u same stands q e = record {
+  ran = follow.quiet o n a b _ same stands (λ t. led_by_none (meeting_test r table test (over own t) ks (scope_of s))
+      ∙ ap (λ z. led_by [] (meeting_test r table test (over own t) ks (scope_of z))) (sym q) ∙ ap (λ l. led_by l (meeting_test r table test (over own t) ks (scope_of u))) (sym e));
+}
+
+-- the next key is judged, in all tables that agree
+judge : (own : List (Place × OwnRow)) (r table : ℕ) (test : Test) (ks met : List Key) (i : ℕ) (k : Key) (t : Tables) (s : RunScope) (ev : Evaluated Bool)
+    → i < length ks → k ≡ get_or ks i k → row_fact own r table test k s ev t
+    → led_by met (meeting_test r table test (over own t) (drop i ks) s) ≡ led_by met (then_value ev (λ h u. then_value (meeting_test r table test (over own t) (drop (i + 1) ks) u) (λ more z. Gives (kept_if h k more) z)))
+judge own r table test ks met i k t s ev h is fact =
+    ap (λ l. led_by met (meeting_test r table test (over own t) l s)) (drop_more ks i k h ∙ ap (λ x. x ∷ drop (i + 1) ks) (sym is))
+    ∙ ap (λ v. led_by met (then_value v (λ h u. then_value (meeting_test r table test (over own t) (drop (i + 1) ks) u) (λ more z. Gives (kept_if h k more) z)))) fact
+
+pub one_judged : (own : List (Place × OwnRow)) (r table : ℕ) (test : Test) (ks met new : List Key) (i : ℕ) (k : Key) (o m n : Option Tables) (a b c : Option (List ReadValue)) (s u w : Scope) (holds : Option Bool) (h : Bool)
+    → Judged own r table test ks (drop i ks) met o m a b s u → i < length ks → k ≡ get_or ks i k
+    → Follows m n b c (row_fact own r table test k (scope_of u) (evaluated holds w)) → holds ≡ Some h → new ≡ met ++ kept_if h k []
+    → Judged own r table test ks (drop (i + 1) ks) new o n a c s w
+one_judged own r table test ks met new i k o m n a b c s u w holds h f less is g z e = record {
+  ran = follow.next_to o m n a b c _ _ _ f.ran g (λ t so_far fact. so_far
+      ∙ judge own r table test ks met i k t (scope_of u) (evaluated (Some h) w) less is (fact ∙ ap (λ d. evaluated d w) z)
+      ∙ led_by_more met new k h e (meeting_test r table test (over own t) (drop (i + 1) ks) (scope_of w)));
+}
+
+pub key_leaves : (own : List (Place × OwnRow)) (r table : ℕ) (test : Test) (ks met : List Key) (i : ℕ) (k : Key) (o m n : Option Tables) (a b c : Option (List ReadValue)) (s u w : Scope) (holds : Option Bool)
+    → Judged own r table test ks (drop i ks) met o m a b s u → i < length ks → k ≡ get_or ks i k
+    → Follows m n b c (row_fact own r table test k (scope_of u) (evaluated holds w)) → holds ≡ None
     → Follows o n a c (λ t. meeting_test r table test (over own t) ks (scope_of s) ≡ evaluated {A = List Key} None w)
-rest_leaves o m n a b c own r table test k rest ks s u w holds h met e f z g y =
-    follow.next_to o m n a b c _ _ _ f g (λ t x q. ap (λ l. meeting_test r table test (over own t) l (scope_of s)) e ∙ ap (λ v. then_value v (rest_of r table test (over own t) k rest)) (x ∙ ap (λ d. evaluated d u) z)
-    ∙ ap (λ v. then_value v (λ met z. Gives (kept_if h k met) z)) (q ∙ ap (λ d. evaluated d w) y))
+key_leaves own r table test ks met i k o m n a b c s u w holds f less is g z =
+    follow.next_to o m n a b c _ _ _ f.ran g (λ t so_far fact. so_far ∙ judge own r table test ks met i k t (scope_of u) (evaluated {A = Bool} None w) less is (fact ∙ ap (λ d. evaluated d w) z))
 
-pub more_meet : (o m n : Option Tables) (a b c : Option (List ReadValue)) (own : List (Place × OwnRow)) (r table : ℕ) (test : Test) (k : Key) (rest ks : List Key) (s u w : Scope) (holds : Option Bool) (h : Bool) (met : Option (List Key)) (list left : List Key)
-    → ks ≡ k ∷ rest → Follows o m a b (row_fact own r table test k (scope_of s) (evaluated holds u)) → holds ≡ Some h
-    → Follows m n b c (λ t. meeting_test r table test (over own t) rest (scope_of u) ≡ evaluated met w) → met ≡ Some list → left ≡ kept_if h k list
-    → Follows o n a c (λ t. meeting_test r table test (over own t) ks (scope_of s) ≡ evaluated (Some left) w)
-more_meet o m n a b c own r table test k rest ks s u w holds h met list left e f z g y i =
-    follow.next_to o m n a b c _ _ _ f g (λ t x q. ap (λ l. meeting_test r table test (over own t) l (scope_of s)) e ∙ ap (λ v. then_value v (rest_of r table test (over own t) k rest)) (x ∙ ap (λ d. evaluated d u) z)
-    ∙ ap (λ v. then_value v (λ met z. Gives (kept_if h k met) z)) (q ∙ ap (λ d. evaluated d w) y) ∙ ap (λ l. Gives l (scope_of w)) (sym i))
+pub all_judged : (own : List (Place × OwnRow)) (r table : ℕ) (test : Test) (ks met : List Key) (i : ℕ) (o n : Option Tables) (a b : Option (List ReadValue)) (s u : Scope)
+    → Judged own r table test ks (drop i ks) met o n a b s u → length ks ≤ i → Follows o n a b (λ t. meeting_test r table test (over own t) ks (scope_of s) ≡ evaluated (Some met) u)
+all_judged own r table test ks met i o n a b s u f past = follow.so o n a b _ _ f.ran (λ t so_far. so_far
+    ∙ ap (λ l. led_by met (meeting_test r table test (over own t) l (scope_of u))) (drop_all i ks past) ∙ ap (λ l. Gives l (scope_of u)) (append-nil met))
 
-pub ruleset rows_meet = (none_meet, first_leaves, rest_leaves, more_meet)
+pub ruleset rows_meet = (none_judged, one_judged, key_leaves, all_judged)
 
 pub any_row : (o n : Option Tables) (a b : Option (List ReadValue)) (own : List (Place × OwnRow)) (r table : ℕ) (test : Option Test) (ks : List Key) (s : RunScope)
     → Follows o n a b (λ t. ks ≡ present_keys (over own t) table) → test ≡ None → Follows o n a b (λ t. only (meeting r table test (over own t) (present_keys (over own t) table) s) ≡ Some ks)

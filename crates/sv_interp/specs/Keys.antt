@@ -1,6 +1,6 @@
 -- The keys at which a test holds, from one to the next.
-use Rattle.std.specs.Prelude.{◌≡◌, ◌==◌, ℕ, Bool, true, false, List, [], ◌∷◌, ◌++◌, Option, Some, None, if◌then◌else◌}
-use Rattle.std.specs.Borrow.{Bor}
+use Rattle.std.specs.Prelude.{◌≡◌, ◌==◌, ◌<◌, ◌≤◌, ℕ, Bool, true, false, List, [], ◌∷◌, ◌++◌, length, Option, Some, None, if◌then◌else◌}
+use Rattle.std.specs.List.{insert, remove}
 use Rattle.std.specs.Ordering.{is_lt}
 use Rattle.std.specs.declared.cmp.Ordering.{Ordering}
 use Rattle.std.specs.declared.cmp.Ordering.TheVariants.{Less, Equal, Greater}
@@ -47,11 +47,18 @@ abbrev pub without_key : Key → List Key → List Key
 without_key j [] = []
 without_key j (x ∷ xs) = without_by (key_cmp j x) x xs (without_key j xs)
 
+-- A key stands at that place among keys in order: they have it, and are without it where that place is left out.
+pub record StandsAt (j : Key) (ks : List Key) (at : ℕ) : Type 0 where
+  pub within : at < length ks
+  pub with_it : with_key j ks ≡ ks
+  pub without_it : without_key j ks ≡ remove ks at
+
+-- A key is missing among keys in order, and would be put at that place.
+pub record IsMissingAt (j : Key) (ks : List Key) (at : ℕ) : Type 0 where
+  pub within : at ≤ length ks
+  pub with_it : with_key j ks ≡ insert ks at j
+  pub without_it : without_key j ks ≡ ks
+
 -- the keys of present rows of a table, after a row was written
 abbrev pub laid : Place × OwnRow → ℕ → List Key → List Key
 laid e table ks = if table == e.0.table then (if e.1.present then with_key e.0.key ks else without_key e.0.key ks) else ks
-
--- a list of keys by the first and the others
-abbrev pub SplitsKeys : List Key → Option (Bor Key × Bor (List Key)) → Type 0
-SplitsKeys ks None = ks ≡ []
-SplitsKeys ks (Some p) = ks ≡ p.0.now ∷ p.1.now

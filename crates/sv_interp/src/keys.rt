@@ -1,4 +1,4 @@
-ghost use Rattle.std.specs.Prelude.{◌≡◌, IfOk, Err, false, List as Items};
+ghost use Rattle.std.specs.Prelude.{◌≡◌, ◌++◌, [], IfOk, OnOk, Err, false, List as Items};
 ghost use Rattle.std.specs.FinMap.{get};
 ghost use Rattle.std.specs.Option.{option_map};
 ghost use Rattle.sv_app.specs.Schema.{Declaration};
@@ -8,11 +8,11 @@ ghost use Rattle.sv_effect.specs.declared.reads.Halt.TheVariants as halt;
 ghost use Rattle.sv_effect.specs.Follows.{Follows};
 ghost use Rattle.sv_effect.specs.Run.{with_row, values_at, kept_if, meeting_test, meeting, only, present_keys};
 ghost use Rattle.sv_effect.specs.RunValues.{truth_of};
-ghost use Rattle.sv_interp.specs.Keys.{SplitsKeys};
 ghost use Rattle.sv_interp.specs.Machine.{over, own_rows, scope_of, evaluated};
 
+use crate::inserts::put_key;
 use crate::looks::look;
-use crate::overlays::{kept_if, lay_all};
+use crate::overlays::lay_all;
 use crate::scopes::Scope;
 use crate::slots::put_row;
 use crate::states::OwnRow;
@@ -21,7 +21,7 @@ use crate::walks::walk;
 use std::alloc::Global;
 use sv_app::{Cond, Got, Place};
 use sv_effect::{Halt, Rows};
-use sv_value::{Key, List};
+use sv_value::{Key, List, NoMemory};
 
 /// The keys of the present rows of a table, in order.
 #[tactic(auto, using(crate::proofs::MeetLaws::presence))]
@@ -38,9 +38,10 @@ fn present<R: Rows>(
     ensures missing { (a : AskValue) → result ≡ Err (halt.Missing a) → R.knows rows.old a ≡ false }
 {
     let mut keys = List::new(alloc);
-    walk(&mut keys, rows, table, None)?;
-    let left = lay_all(alloc, own, table, keys)?;
-    Ok(left)
+    walk(&mut keys, rows, table)?;
+    let mut left = keys.into_vec();
+    lay_all(own, table, &mut left)?;
+    Ok(List::from_vec(left))
 }
 
 fn values_of(alloc: Global, found: Option<OwnRow>) -> List<Got>
@@ -77,13 +78,17 @@ fn meets<R: Rows>(
     Ok(holds)
 }
 
-fn split(keys: &[Key]) -> Option<(&Key, &[Key])>
-    ensures { SplitsKeys keys.now result }
+/// Appends a key if it is kept.
+fn put_if(holds: bool, key: &Key, keys: &mut List<Key>) -> Result<(), NoMemory>
+    ensures { OnOk result (keys.new ≡ keys.old ++ kept_if holds key.now []) }
 {
-    keys.split_first()
+    if holds {
+        put_key(keys, key)?;
+    }
+    Ok(())
 }
 
-/// Those of the keys whose rows meet the condition.
+/// Those of the keys whose rows meet the condition; none where a number leaves 64 bits.
 #[tactic(auto, using(crate::proofs::MeetLaws::rows_meet))]
 fn meet<R: Rows>(
     alloc: Global,
@@ -102,20 +107,15 @@ fn meet<R: Rows>(
     ensures same_knows { R.knows rows.new ≡ R.knows rows.old }
     ensures missing { (a : AskValue) → result ≡ Err (halt.Missing a) → R.knows rows.old a ≡ false }
 {
-    match split(keys) {
-        None => Ok(Some(List::new(alloc))),
-        Some((first, rest)) => {
-            let place = Place { table, key: *first };
-            let Some(holds) = meets(alloc, own, row, &place, test, scope, rows)? else {
-                return Ok(None);
-            };
-            let Some(met) = meet(alloc, own, row, table, test, rest, scope, rows)? else {
-                return Ok(None);
-            };
-            let left = kept_if(holds, first, met)?;
-            Ok(Some(left))
-        }
+    let mut met = List::new(alloc);
+    for key in keys {
+        let place = Place { table, key: *key };
+        let Some(holds) = meets(alloc, own, row, &place, test, scope, rows)? else {
+            return Ok(None);
+        };
+        put_if(holds, key, &mut met)?;
     }
+    Ok(Some(met))
 }
 
 /// The keys of the present rows that meet the condition, in order; none where a number leaves 64 bits.

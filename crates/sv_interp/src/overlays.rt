@@ -1,97 +1,82 @@
-ghost use Rattle.std.specs.Prelude.{◌≡◌, IfOk};
+ghost use Rattle.std.specs.Prelude.{◌≡◌, IfOk, IfErr, OnOk};
 ghost use Rattle.sv_app.specs.Tables.{Tables};
-ghost use Rattle.sv_effect.specs.Run.{kept_if, present_keys};
-ghost use Rattle.sv_interp.specs.Keys.{with_key, without_key, laid};
+ghost use Rattle.sv_effect.specs.Run.{present_keys};
+ghost use Rattle.sv_interp.specs.Keys.{with_key, without_key, laid, StandsAt, IsMissingAt};
 ghost use Rattle.sv_interp.specs.Machine.{over};
 
-use crate::slots::prepend;
 use crate::states::OwnRow;
-use std::alloc::Global;
 use std::cmp::Ordering;
 use sv_app::Place;
-use sv_value::{Key, List, NoMemory, Val};
+use sv_value::{Key, NoMemory, Val};
 
-fn copy_keys(alloc: Global, keys: &[Key]) -> Result<List<Key>, NoMemory>
-    ensures { IfOk result (λ copy. copy ≡ keys.now) }
+/// Where a key stands among keys in order, or else where it would be put.
+#[tactic(auto, using(crate::proofs::SpotLaws::spotting))]
+fn find(key: &Key, keys: &[Key]) -> Result<usize, usize>
+    ensures stands { IfOk result (StandsAt key.now keys.now) }
+    ensures missing { IfErr result (IsMissingAt key.now keys.now) }
 {
-    Ok(List::from_vec(Vec::from_slice(alloc, keys)?))
+    for at in 0..keys.len() {
+        match key.cmp(&keys[at]) {
+            Ordering::Less => return Err(at),
+            Ordering::Equal => return Ok(at),
+            Ordering::Greater => {}
+        }
+    }
+    Err(keys.len())
 }
 
-/// Keys in order, with one of them.
-fn with_key(alloc: Global, key: &Key, keys: &[Key]) -> Result<List<Key>, NoMemory>
-    ensures { IfOk result (λ left. left ≡ with_key key.now keys.now) }
+/// Puts a key among keys in order, unless it is there.
+fn put_in(key: &Key, keys: &mut Vec<Key>) -> Result<(), NoMemory>
+    ensures { OnOk result (keys.new.items ≡ with_key key.now keys.old.items) }
 {
-    match keys.split_first() {
-        None => prepend(*key, List::new(alloc)),
-        Some((first, rest)) => match key.cmp(first) {
-            Ordering::Less => prepend(*key, copy_keys(alloc, keys)?),
-            Ordering::Equal => copy_keys(alloc, keys),
-            Ordering::Greater => prepend(*first, with_key(alloc, key, rest)?),
-        },
+    match find(key, keys) {
+        Ok(_) => Ok(()),
+        Err(at) => {
+            let first: Val = key.first;
+            let second: Option<Val> = key.second;
+            keys.insert(at, Key { first, second })?;
+            Ok(())
+        }
     }
 }
 
-/// Keys in order, without one of them.
-fn without_key(alloc: Global, key: &Key, keys: &[Key]) -> Result<List<Key>, NoMemory>
-    ensures { IfOk result (λ left. left ≡ without_key key.now keys.now) }
+/// Takes a key out of keys in order, if it is there.
+fn take_out(key: &Key, keys: &mut Vec<Key>)
+    ensures { keys.new.items ≡ without_key key.now keys.old.items }
 {
-    match keys.split_first() {
-        None => Ok(List::new(alloc)),
-        Some((first, rest)) => match key.cmp(first) {
-            Ordering::Less => copy_keys(alloc, keys),
-            Ordering::Equal => copy_keys(alloc, rest),
-            Ordering::Greater => prepend(*first, without_key(alloc, key, rest)?),
-        },
+    match find(key, keys) {
+        Ok(at) => {
+            keys.remove(at);
+        }
+        Err(_) => {}
     }
 }
 
 /// The keys of the present rows of a table, after a row was written.
-fn lay(
-    alloc: Global,
-    row: &(Place, OwnRow),
-    table: u16,
-    keys: List<Key>,
-) -> Result<List<Key>, NoMemory>
-    ensures { IfOk result (λ left. left ≡ laid row.now table keys) }
+fn lay(row: &(Place, OwnRow), table: u16, keys: &mut Vec<Key>) -> Result<(), NoMemory>
+    ensures { OnOk result (keys.new.items ≡ laid row.now table keys.old.items) }
 {
     if table != row.0.table {
-        return Ok(keys);
+        return Ok(());
     }
     if row.1.present {
-        with_key(alloc, &row.0.key, keys.items())
+        put_in(&row.0.key, keys)
     } else {
-        without_key(alloc, &row.0.key, keys.items())
+        take_out(&row.0.key, keys);
+        Ok(())
     }
 }
 
 /// The same after all rows that the run wrote.
 #[tactic(auto, using(crate::proofs::LaidLaws::laying))]
-pub fn lay_all(
-    alloc: Global,
-    own: &[(Place, OwnRow)],
-    table: u16,
-    keys: List<Key>,
-) -> Result<List<Key>, NoMemory>
-    ensures { IfOk result (λ left. (t : Tables) → keys ≡ present_keys t table → left ≡ present_keys (over own.now t) table) }
+pub fn lay_all(own: &[(Place, OwnRow)], table: u16, keys: &mut Vec<Key>) -> Result<(), NoMemory>
+    ensures { OnOk result ((t : Tables) → keys.old.items ≡ present_keys t table → keys.new.items ≡ present_keys (over own.now t) table) }
 {
     match own.split_first() {
-        None => Ok(keys),
+        None => Ok(()),
         Some((first, rest)) => {
-            let under = lay_all(alloc, rest, table, keys)?;
-            lay(alloc, first, table, under)
+            lay_all(rest, table, keys)?;
+            lay(first, table, keys)
         }
-    }
-}
-
-/// The keys, with one before them if it is kept.
-pub fn kept_if(holds: bool, key: &Key, keys: List<Key>) -> Result<List<Key>, NoMemory>
-    ensures { IfOk result (λ left. left ≡ kept_if holds key.now keys) }
-{
-    if holds {
-        let first: Val = key.first;
-        let second: Option<Val> = key.second;
-        prepend(Key { first, second }, keys)
-    } else {
-        Ok(keys)
     }
 }
