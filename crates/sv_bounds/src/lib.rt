@@ -7,8 +7,6 @@ mod laws;
 mod rounds;
 mod settling;
 mod systems;
-#[cfg(test)]
-mod tests;
 mod walks;
 mod widths;
 

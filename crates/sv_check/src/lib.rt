@@ -3,8 +3,6 @@
 
 mod after;
 mod broken;
-#[cfg(test)]
-mod cases;
 mod changes;
 mod clashes;
 mod initial;
@@ -12,11 +10,7 @@ mod keys;
 mod laws;
 mod least;
 mod left;
-#[cfg(test)]
-mod plain;
 mod rules;
-#[cfg(test)]
-mod tests;
 mod verdicts;
 mod writes;
 

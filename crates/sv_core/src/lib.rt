@@ -9,8 +9,6 @@ mod plain_counts;
 mod plain_docs;
 mod plain_entries;
 mod plain_tables;
-#[cfg(test)]
-mod plain_tests;
 mod readiness;
 mod runs;
 mod sites;

@@ -14,8 +14,6 @@ mod settings;
 mod slots;
 mod statements;
 mod states;
-#[cfg(test)]
-mod tests;
 mod txns;
 mod values;
 mod walks;

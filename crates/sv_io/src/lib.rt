@@ -23,6 +23,3 @@ pub use sources::Source;
 pub use std_sinks::StdSink;
 pub use std_sources::StdSource;
 pub use writing::write_all;
-
-#[cfg(test)]
-mod tests;

@@ -17,6 +17,3 @@ pub use marks::Mark;
 pub use spots::spot_of;
 pub use stops::LexStop;
 pub use tokens::{Token, TokenKind};
-
-#[cfg(test)]
-mod tests;

@@ -15,6 +15,3 @@ pub use faults::{Fault, Halt};
 pub use parts::{Order, Side};
 pub use readers::Reader;
 pub use reading::read_schema;
-
-#[cfg(test)]
-mod tests;

@@ -4,8 +4,6 @@
 mod rows;
 mod sources;
 mod stores;
-#[cfg(test)]
-mod tests;
 
 pub use rows::KeptRow;
 pub use stores::ListStore;

@@ -4,19 +4,13 @@
 mod answers;
 mod checks;
 mod laws;
-#[cfg(test)]
-mod part_tests;
 mod reader_checks;
 mod reader_laws;
 mod reader_parts;
 mod reader_replays;
 mod reader_steps;
-#[cfg(test)]
-mod reader_tests;
 mod readers;
 mod replays;
-#[cfg(test)]
-mod rule_tests;
 mod shows;
 mod statuses;
 mod steps;
@@ -30,6 +24,3 @@ pub use reader_replays::read_replay;
 pub use steps::{Replay, Step};
 pub use tops::{plain, top};
 pub use words::Words;
-
-#[cfg(test)]
-mod tests;

@@ -16,6 +16,3 @@ mod values;
 
 pub use counts::Counts;
 pub use reading::read_txns;
-
-#[cfg(test)]
-mod tests;

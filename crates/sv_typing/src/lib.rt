@@ -21,11 +21,7 @@ mod references;
 mod scopes;
 mod statements;
 mod terms;
-#[cfg(test)]
-mod tests;
 mod txn_numbers;
-#[cfg(test)]
-mod txn_tests;
 mod txns;
 mod types;
 mod values;

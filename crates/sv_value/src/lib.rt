@@ -11,8 +11,6 @@ mod padded;
 mod sites;
 mod spots;
 mod stamps;
-#[cfg(test)]
-mod tests;
 mod texts;
 mod values;
 

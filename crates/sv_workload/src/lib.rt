@@ -12,12 +12,8 @@ mod parts;
 mod reading;
 mod replays;
 mod rows;
-#[cfg(test)]
-mod session_tests;
 mod sessions;
 mod settings;
-#[cfg(test)]
-mod tests;
 mod values;
 mod written;
 

@@ -1,6 +1,0 @@
-use Rattle.std.proofs.Common.{◌∙◌}
-use Rattle.sv_check.proofs.ShopLaws.{parent_gone}
-use Rattle.sv_check.proofs.cases.remove_parent.Goals as goal
-
-pub returns : goal.returns
-returns c = parent_gone _ c.change.result (record { table = c.change.ensures.table; key = c.change.ensures.key; act = c.change.ensures.act; writes = c.change.ensures.writes ∙ c.new.ensures })
