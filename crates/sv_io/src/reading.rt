@@ -32,8 +32,8 @@ pub enum ReadError {
 ///
 /// # Errors
 ///
-/// `Failed` only where the source's count of faults rose, `TooLong` exactly where more than 1,048,576 bytes came, and
-/// `NoMemory`. After an error the bytes that came are gone from the source.
+/// `Failed` only where the source's count of faults rose before more than 1,048,576 bytes came, `TooLong` exactly where
+/// more came, and `NoMemory`. After an error the bytes that came are gone from the source.
 #[tactic(auto, using(crate::proofs::ReadLemmas::reading))]
 pub fn read_all<S: Source>(alloc: Global, input: &mut S) -> Result<Vec<u8>, ReadError>
     ensures bytes { IfOk result (λ read. IfSome (S.left input.old) (λ bytes. read.items ≡ bytes)) }
@@ -44,6 +44,7 @@ pub fn read_all<S: Source>(alloc: Global, input: &mut S) -> Result<Vec<u8>, Read
     ensures err { OnErr result (PassedUpTo (S.left input.old) (S.left input.new) (most_bytes + 1)) }
     ensures count { S.faults input.old ≤ S.faults input.new }
     ensures failed { IsErrOf result ReadError.Failed → Rose (S.faults input.old) (S.faults input.new) }
+    ensures failed_in_time { IsErrOf result ReadError.Failed → PassedUpTo (S.left input.old) (S.left input.new) most_bytes }
 {
     let mut piece = [0u8; PIECE];
     let mut bytes: Vec<u8> = Vec::new(alloc);

@@ -12,7 +12,7 @@ pub enum Step {
     Deliver { site: Site, packet: Packet },
     /// A site applies a packet that came early.
     Settle { site: Site },
-    /// A site applies all ordered operations that it lacks.
+    /// A site applies all published operations that it lacks.
     Catch { site: Site },
     /// The rows that a site has of a table are shown.
     Show { site: Site, table: u16 },
