@@ -2,6 +2,7 @@
 use Rattle.std.specs.Prelude.{◌≡◌, ◌≢◌, ◌+◌, ℕ, suc, ◌≤◌, List, [], ◌∷◌, length}
 use Rattle.std.specs.List.{All, flat_map}
 use Rattle.sv_app.specs.declared.schemas.Ty.TheVariants.{Ints}
+use Rattle.sv_app.specs.Limits.{most_tables, most_columns, most_invariants, most_texts}
 use Rattle.sv_app.specs.Schema.{Rule, Bound, OneOf, Different, Refers, Invariant, Declaration}
 
 -- a list has a text
@@ -24,18 +25,18 @@ pub record KeepsGrammar (schema : List Declaration) : Type 0 where
 
 -- at most 16 tables, 16 columns and 16 invariants of a table, and 16 texts of a list
 abbrev pub IsSmallRule : Rule → Type 0
-IsSmallRule (OneOf name texts) = length texts ≤ 16
+IsSmallRule (OneOf name texts) = length texts ≤ most_texts
 IsSmallRule (Bound check) = Unit {0}
 IsSmallRule (Different name) = Unit {0}
 IsSmallRule (Refers name table target) = Unit {0}
 
 pub record IsSmallTable (t : Declaration) : Type 0 where
-  pub columns : length t.columns ≤ 16
-  pub invariants : length t.invs ≤ 16
+  pub columns : length t.columns ≤ most_columns
+  pub invariants : length t.invs ≤ most_invariants
   pub rules : All (λ inv. IsSmallRule inv.rule) t.invs
 
 pub record KeepsLimits (schema : List Declaration) : Type 0 where
-  pub count : length schema ≤ 16
+  pub count : length schema ≤ most_tables
   pub each : All IsSmallTable schema
 
 -- the invariants are numbered from so many on

@@ -7,6 +7,7 @@ pub mod Depths
 pub mod Firsts
 pub mod Fitting
 pub mod Kinds
+pub mod Limits
 pub mod Lookups
 pub mod Numbers
 pub mod Parts

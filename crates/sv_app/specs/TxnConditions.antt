@@ -2,6 +2,7 @@
 use Rattle.std.specs.Prelude.{◌≡◌, ◌≤◌, Bool, true, false, List, length}
 use Rattle.std.specs.List.{All, flat_map, filter}
 use Rattle.sv_app.specs.Depths.{depths, block_depth}
+use Rattle.sv_app.specs.Limits.{most_txns, most_params, most_statements, most_loops, most_variables, most_blocks, most_depth, most_code}
 use Rattle.sv_app.specs.Statements.{block_statements}
 use Rattle.sv_app.specs.Trees.{Term, Command, Declare, Fetch, ForRows, ForEach, Insert, Update, Remove, Abort, Block, Transaction}
 
@@ -30,20 +31,20 @@ KeepsStatement (ForEach x l body) = length (loops_of body) ≡ 0
 KeepsStatement (Insert t vs) = 1 ≤ length vs
 KeepsStatement (Update t k ss) = IsKey k × (1 ≤ length ss)
 KeepsStatement (Remove t k) = IsKey k
-KeepsStatement (Abort n) = n ≤ 999
+KeepsStatement (Abort n) = n ≤ most_code
 KeepsStatement command = Unit {0}
 
 abbrev pub KeepsTxnGrammar : List Transaction → Type 0
 KeepsTxnGrammar txns = All (λ txn. All KeepsStatement (block_statements txn.body)) txns
 
 pub record IsSmallTxn (txn : Transaction) : Type 0 where
-  pub params : length txn.params ≤ 16
-  pub statements : length (block_statements txn.body) ≤ 128
-  pub blocks : block_depth txn.body ≤ 8
-  pub loops : length (loops_of txn.body) ≤ 15
-  pub variables : length (filter is_declaration (block_statements txn.body)) ≤ 32
-  pub expressions : All (λ depth. depth ≤ 16) (flat_map depths (block_statements txn.body))
+  pub params : length txn.params ≤ most_params
+  pub statements : length (block_statements txn.body) ≤ most_statements
+  pub blocks : block_depth txn.body ≤ most_blocks
+  pub loops : length (loops_of txn.body) ≤ most_loops
+  pub variables : length (filter is_declaration (block_statements txn.body)) ≤ most_variables
+  pub expressions : All (λ depth. depth ≤ most_depth) (flat_map depths (block_statements txn.body))
 
 pub record KeepsTxnLimits (txns : List Transaction) : Type 0 where
-  pub count : length txns ≤ 32
+  pub count : length txns ≤ most_txns
   pub each : All IsSmallTxn txns

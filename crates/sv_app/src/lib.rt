@@ -5,6 +5,7 @@ mod acts;
 mod apps;
 mod gots;
 mod instances;
+pub mod limits;
 mod names;
 mod parts;
 mod places;
