@@ -13,9 +13,7 @@ pub mod LeftLaws
 pub mod ListLaws
 pub mod ReferLaws
 pub mod RuleLaws
-pub mod SampleLaws
 pub mod SetLaws
-pub mod ShopLaws
 pub mod SlotLaws
 pub mod StartLaws
 pub mod TableLaws

@@ -4,7 +4,5 @@ pub mod Initial
 pub mod Least
 pub mod Left
 pub mod Rules
-pub mod Sample
-pub mod Shop
 pub mod Tests
 pub mod Verdicts

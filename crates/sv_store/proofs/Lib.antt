@@ -3,6 +3,5 @@ pub mod ChangeLaws
 pub mod InitLaws
 pub mod NextLaws
 pub mod RowLaws
-pub mod SampleLaws
 pub mod StoreLaws
 pub mod TakeLaws
