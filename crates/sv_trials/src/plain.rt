@@ -2,8 +2,7 @@
 use crate::halts::{End, Halted};
 use crate::plain_changes::{insert, present_row, remove, update};
 use crate::plain_needs::needs;
-pub use crate::plain_rows::PlainRow;
-use crate::plain_rows::{copied, find_present, present_keys};
+use crate::plain_rows::{PlainRow, copied, find_present, present_keys};
 use crate::plain_states::{Machine, Progress};
 use crate::plain_values::{holds, key_of, value, values};
 use std::alloc::Global;
@@ -11,6 +10,13 @@ use std::mem::replace;
 use sv_app::{App, Arg, Cond, Expr, Instance, Parts, Place, Request, Stmt, Table, Txn, parts_of};
 use sv_effect::{Outcome, Ran};
 use sv_value::{Key, List, NoMemory, Spot, Val};
+
+/// What a run comes to, and the rows that it leaves, none where it isn't done.
+#[derive(Drop)]
+pub struct PlainRun {
+    pub ran: Ran,
+    pub rows: Vec<PlainRow>,
+}
 
 /// The most values of a reply.
 const MOST_REPLIES: usize = 16;
@@ -364,8 +370,9 @@ fn start(alloc: Global, txn: &Txn, args: &[Arg], rows: &[PlainRow]) -> Result<Ma
 }
 
 /// What a run comes to that wasn't ended before its last statement.
-fn done(alloc: Global, tables: &[Table], machine: Machine) -> Result<Ran, NoMemory> {
+fn done(alloc: Global, tables: &[Table], machine: Machine) -> Result<PlainRun, NoMemory> {
     let Machine {
+        rows,
         progress,
         effects,
         replies,
@@ -382,16 +389,17 @@ fn done(alloc: Global, tables: &[Table], machine: Machine) -> Result<Ran, NoMemo
             tape: progress.tape,
         },
     )?;
-    Ok(Ran {
+    let ran = Ran {
         outcome: Outcome::Done(replies),
         effects,
         needs,
         trace: List::from_vec(trace),
-    })
+    };
+    Ok(PlainRun { ran, rows })
 }
 
 /// What a run comes to that was ended: nothing but its outcome.
-fn ended(alloc: Global, end: End) -> Ran {
+fn ended(alloc: Global, end: End) -> PlainRun {
     let outcome = match end {
         End::Abort(code) => Outcome::Abort(code),
         End::NoRow => Outcome::NoRow,
@@ -399,11 +407,15 @@ fn ended(alloc: Global, end: End) -> Ran {
         End::Range => Outcome::Range,
         End::TooLarge => Outcome::TooLarge,
     };
-    Ran {
+    let ran = Ran {
         outcome,
         effects: List::new(alloc),
         needs: List::new(alloc),
         trace: List::new(alloc),
+    };
+    PlainRun {
+        ran,
+        rows: Vec::new(alloc),
     }
 }
 
@@ -413,7 +425,7 @@ pub fn run(
     app: &App,
     request: &Request,
     rows: &[PlainRow],
-) -> Result<Ran, NoMemory> {
+) -> Result<PlainRun, NoMemory> {
     let txn = app.txns.get(request.txn as usize).ok_or(NoMemory)?;
     let mut machine = start(alloc, txn, request.args.items(), rows)?;
     match run_block(alloc, &app.tables, &txn.body, &mut machine, &txn.body) {

@@ -26,7 +26,8 @@ pub fn is_key_column(table: &Table, col: u16) -> bool {
     false
 }
 
-fn got_of(val: &Val) -> Got {
+/// What a row shows of a value.
+pub fn got_of(val: &Val) -> Got {
     match val {
         Val::Int(number) => Got::Num(*number as i128),
         Val::Text(text) => Got::Text(*text),

@@ -3,6 +3,7 @@
 //! `ok(); update t(1) n+=5 v=3 @0; kept t(1); 0 10 (1, 5)` is a run of one change and two choices.
 use std::alloc::Global;
 use sv_app::{Act, App, Instance};
+use sv_check::Verdict;
 use sv_effect::{Need, Outcome, Ran, RowEffect, Write};
 use sv_value::{Key, NoMemory, Text, Val, put_int};
 
@@ -57,6 +58,10 @@ fn put_row(out: &mut Vec<u8>, app: &App, table: u16, key: &Key) -> Result<(), No
     if let Some(declared) = app.tables.get(table as usize) {
         put(out, declared.name.name.bytes())?;
     }
+    put_key(out, key)
+}
+
+fn put_key(out: &mut Vec<u8>, key: &Key) -> Result<(), NoMemory> {
     match &key.second {
         Some(second) => put_vals(out, &[key.first, *second]),
         None => put_vals(out, &[key.first]),
@@ -150,4 +155,17 @@ pub fn text_of(alloc: Global, app: &App, ran: &Ran) -> Result<Vec<u8>, NoMemory>
         put_instance(&mut out, instance)?;
     }
     Ok(out)
+}
+
+/// Which invariant is broken first, and at which key.
+pub fn put_verdict(out: &mut Vec<u8>, verdict: &Verdict) -> Result<(), NoMemory> {
+    match verdict {
+        Verdict::Keeps => put(out, b"keeps"),
+        Verdict::Breaks { inv, key } => {
+            put(out, b"breaks ")?;
+            put_int(out, *inv as i128)?;
+            put(out, b" at ")?;
+            put_key(out, key)
+        }
+    }
 }
