@@ -1,0 +1,4 @@
+pub mod ExtendsLaws
+pub mod ListLaws
+pub mod SightLaws
+pub mod StepLaws

@@ -1,0 +1,5 @@
+pub mod Extends
+pub mod Sight
+pub mod Steps
+pub mod Turns
+pub mod Views
