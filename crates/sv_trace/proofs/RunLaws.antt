@@ -26,7 +26,7 @@ use Rattle.sv_effect.specs.RunValues.{Evaluated, Leaves, Gives, values_of, truth
 use Rattle.sv_trace.specs.Laws.{IsShapedRun, RunsAreShaped}
 use Rattle.sv_trace.specs.Standing.{Frame, IsFrame, BlockIn, CommandIn, EffectFits, Holds, Passes, Makes, Turned}
 use Rattle.sv_trace.proofs.BlockLaws.{first_in, rest_in, passes_finish, passes_then}
-use Rattle.sv_trace.proofs.ChangeLaws.{own_rows_fit, row_is, makes_remove}
+use Rattle.sv_trace.proofs.ChangeLaws.{own_rows_fit, makes_remove}
 use Rattle.sv_trace.proofs.InsertLaws.{makes_insert}
 use Rattle.sv_trace.proofs.LoopLaws.{yes_in, no_in, test_holds, makes_yes, makes_no, rows_in, items_in, row_begins, item_begins, row_turn_closes, item_turn_closes, turned_none, turned_more, makes_rows, makes_items}
 use Rattle.sv_trace.proofs.OpeningLaws.{body_in, begins_on, completes_on}
@@ -241,6 +241,6 @@ runs_are_shaped schema txns request txn t accepted among fits rows =
     by_flow (Ends o) is = record { trace = All-nil (Shaped schema txn); changes = All-nil (EffectFits schema); few = omega arith }
     by_flow (Goes end) is =
         let frame : IsFrame f = record { accepted = accepted; among = among; fits = fits } in
-        let passes = of_block f txn.body (opening schema txn.params) (started request.args t) end (body_in f frame) (begins_on f frame t (λ p row found. row_is schema p row (rows p row found))) is in
+        let passes = of_block f txn.body (opening schema txn.params) (started request.args t) end (body_in f frame) (begins_on f frame t rows) is in
         let done = completes_on f t end passes in
         record { trace = done.0; changes = done.1; few = done.2 }

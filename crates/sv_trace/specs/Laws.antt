@@ -1,4 +1,4 @@
--- What the meaning of runs promises: a run of an accepted application, on arguments that fit and on tables of its rows, has a trace of shaped instances
+-- What the meaning of runs promises: a run of an accepted application, on arguments that fit and on rows of its tables, has a trace of shaped instances
 -- and at most 64 changes, each of which fits the schema.
 use Rattle.std.specs.Prelude.{◌≡◌, ◌≤◌, List, length, Some, slice_get}
 use Rattle.std.specs.FinMap.{get}
@@ -11,13 +11,12 @@ use Rattle.sv_app.specs.Schema.{Declaration}
 use Rattle.sv_app.specs.Shaped.{Shaped}
 use Rattle.sv_app.specs.Tables.{Row, Tables}
 use Rattle.sv_app.specs.Trees.{Transaction}
-use Rattle.sv_effect.specs.RowsFit.{ValuesAreOf}
 use Rattle.sv_effect.specs.Run.{RunResult, run}
-use Rattle.sv_trace.specs.Standing.{EffectFits}
+use Rattle.sv_trace.specs.Standing.{RowIs, EffectFits}
 
--- each row is of the application
+-- each row is of its table: its key and its values are of the types that the table declares, whatever integers they are
 abbrev pub RowsAreOf : List Declaration → Tables → Type 0
-RowsAreOf schema t = (place : Place) (row : Row) → get t place ≡ Some row → ValuesAreOf schema place row.values
+RowsAreOf schema t = (place : Place) (row : Row) → get t place ≡ Some row → RowIs schema place row.values
 
 pub record IsShapedRun (schema : List Declaration) (txn : Transaction) (ran : RunResult) : Type 0 where
   pub trace : All (Shaped schema txn) ran.trace
