@@ -32,3 +32,4 @@ pub mod Units
 pub mod Valid
 pub mod Weights
 pub mod Words
+pub mod Writes

@@ -129,7 +129,8 @@ merge_in (Some column) = column.merge
 -- after each set of a counter its value now
 abbrev pub now_way : Merge → ℕ → Way → Way
 now_way merges.NumDelta c w = brought_old c types.Int w
-now_way _ c w = w
+now_way merges.Plain c w = w
+now_way merges.Lww c w = w
 
 abbrev pub sets_way : List Declaration → Names → ℕ → List (Ident × Term) → Way → Way
 sets_way schema names table [] w = w
@@ -138,7 +139,8 @@ sets_way schema names table (set ∷ sets) w = sets_way schema names table sets 
 -- the kept values of the counters of an insert, in column order; in a grow-only table nothing is kept
 abbrev pub kept_way : Merge → Way → Way
 kept_way merges.NumDelta w = put types.Int w
-kept_way _ w = w
+kept_way merges.Plain w = w
+kept_way merges.Lww w = w
 
 abbrev pub columns_way : Declaration → ℕ → List Column → Way → Way
 columns_way table c [] w = w
@@ -148,19 +150,25 @@ abbrev pub insert_way : Option Declaration → Way → Way
 insert_way None w = w
 insert_way (Some table) w = if is_grow_only table.kind then w else columns_way table 0 table.columns w
 
--- a path leads on, or ends: by an abort, or since there are too few choices
+-- a path aborts, with the choices that are left there, or has too few choices, or leads on
 pub data Path : Type 0 where
-  Ends : Path
+  Aborts : Way → Path
+  TooFew : Path
   Leads : Way → Path
 
 abbrev pub then_lead : Path → (Way → Path) → Path
-then_lead Ends go = Ends
+then_lead (Aborts w) go = Aborts w
+then_lead TooFew go = TooFew
 then_lead (Leads w) go = go w
 
 abbrev pub on_side : Tested → (Way → Path) → (Way → Path) → Path
-on_side Short f g = Ends
+on_side Short f g = TooFew
 on_side (Tells true w) f g = f w
 on_side (Tells false w) f g = g w
+
+-- no column of a row that is updated is known, before an update and after it
+abbrev pub forgetting : Way → Way
+forgetting w = record w { known_old = [] }
 
 abbrev pub formed : ℕ → Way → Way
 formed x w = record w { known = w.known ++ sources.Variable x ∷ [] }
@@ -178,9 +186,9 @@ abbrev mutual
   command_path schema names (ForRows r t c body) w = after_loop body w
   command_path schema names (ForEach x l body) w = after_loop body w
   command_path schema names (Insert t vs) w = Leads (insert_way (slice_get schema t.num) (terms_way schema names vs w))
-  command_path schema names (Update t k ss) w = Leads (sets_way schema names t.num ss (record (terms_way schema names k w) { known_old = [] }))
+  command_path schema names (Update t k ss) w = Leads (forgetting (sets_way schema names t.num ss (forgetting (terms_way schema names k w))))
   command_path schema names (Remove t k) w = Leads (terms_way schema names k w)
-  command_path schema names (Abort n) w = Ends
+  command_path schema names (Abort n) w = Aborts w
   command_path schema names (Reply e) w = Leads (term_way schema names 0 e w)
 
   pub block_path : List Declaration → Names → Block → Way → Path

@@ -138,7 +138,7 @@ at_table (Some t) name rule = rule t
 
 -- a statement that the table's kind doesn't allow, at the table's name
 abbrev pub kind_faults : Declaration → Act → Ident → List Refusal
-kind_faults t act name = fault_if (not (allows t.kind act)) name.spot Kind
+kind_faults t act name = fault_if (not (allows t act)) name.spot Kind
 
 -- a wrong number of keys or values, at the table's name
 abbrev pub count_faults : List Ident → List Term → Ident → List Refusal

@@ -9,7 +9,7 @@ use Rattle.sv_effect.specs.declared.ops.RowEffect.{RowEffect}
 use Rattle.sv_effect.specs.Follows.{Follows}
 use Rattle.sv_effect.specs.Reads.{ReadValue}
 use Rattle.sv_effect.specs.RunChanges.{Effect, effect_of}
-use Rattle.sv_effect.specs.Safe.{row_after, with_effect, with_effects}
+use Rattle.sv_effect.specs.Effects.{row_after, with_effect, with_effects}
 use Rattle.sv_effect.proofs.FollowLaws.{quiet, so, next_to}
 use Rattle.sv_check.specs.declared.left.LeftRow.{LeftRow}
 use Rattle.sv_check.specs.Left.{over, left_row, left_rows}

@@ -1,6 +1,6 @@
 -- From what is said of each invariant to the verdict.
-use Rattle.std.proofs.Common.{◌≡◌, ◌≢◌, ◌⊎◌, inl, inr, ℕ, zero, suc, ◌+◌, ◌<◌, ◌≤◌, Bool, true, false, cond, List, [], ◌∷◌, map, get_or, length, Option, Some, None, slice_get, refl, sym, ap, subst, ◌∙◌, arith}
-use Rattle.std.specs.Prelude.{unwrap_or, IsSome}
+use Rattle.std.proofs.Common.{◌≡◌, ◌⊎◌, inl, inr, ℕ, zero, suc, ◌+◌, ◌<◌, ◌≤◌, Bool, true, false, cond, List, [], ◌∷◌, map, get_or, length, Option, Some, None, slice_get, refl, sym, ap, subst, ◌∙◌, arith}
+use Rattle.std.specs.Prelude.{unwrap_or}
 use Rattle.std.specs.List.{flat_map}
 use Rattle.std.specs.Ordering.{is_lt, is_eq}
 use Rattle.std.specs.FinMap.{get, get-insert}
@@ -18,7 +18,7 @@ use Rattle.sv_app.specs.declared.schemas.Kind.{Kind}
 use Rattle.sv_app.specs.declared.schemas.Kind.TheVariants.{Plain, Aoset, Uoset, Auset, Arset}
 use Rattle.sv_app.specs.Accepted.{AcceptedSchema}
 use Rattle.sv_app.specs.Conditions.{AreNumberedFrom}
-use Rattle.sv_app.specs.Kinds.{allows, is_grow_only}
+use Rattle.sv_app.specs.Kinds.{kind_allows, is_grow_only}
 use Rattle.sv_app.specs.Schema.{Rule, Bound, OneOf, Different, Refers, Invariant, Declaration, rule_of, invariant_of}
 use Rattle.sv_app.specs.Tables.{Row, Tables}
 use Rattle.sv_app.specs.Valid.{value_of, key_by, place_at, IsKept, IsPresent, Binds, Holds, IsInvariant, Valid, IsBroken, IsFirstBroken}
@@ -30,7 +30,8 @@ use Rattle.sv_effect.specs.Follows.{Follows}
 use Rattle.sv_effect.specs.Reads.{ReadValue}
 use Rattle.sv_effect.specs.RowChange.{turn_of}
 use Rattle.sv_effect.specs.RunChanges.{effect_of, stands}
-use Rattle.sv_effect.specs.Safe.{row_after, with_effect, with_effects, FindsAll}
+use Rattle.sv_effect.specs.Acts.{IsFound}
+use Rattle.sv_effect.specs.Effects.{row_after, with_effect, with_effects, FindsAll}
 use Rattle.sv_effect.specs.TablesOfCut.{is_place}
 use Rattle.sv_effect.proofs.FollowLaws.{quiet, so, next_to}
 use Rattle.sv_check.specs.declared.left.LeftRow.{LeftRow}
@@ -267,21 +268,21 @@ first_is schema t number key accepted found = record {
 abbrev AreGrown : List Declaration → Tables → Type 0
 AreGrown schema t = (table : ℕ) (declaration : Declaration) (key : Key) (row : Row) → slice_get schema table ≡ Some declaration → is_grow_only declaration.kind ≡ true → IsKept t table key row → row.present ≡ true
 
-removes_none : (kind : Kind) → is_grow_only kind ≡ true → allows kind Remove ≡ true → ⊥
+removes_none : (kind : Kind) → is_grow_only kind ≡ true → kind_allows kind Remove ≡ true → ⊥
 removes_none Plain g a = cc
 removes_none Aoset g a = cc
 removes_none Uoset g a = cc
 removes_none Auset g a = cc
 removes_none Arset g a = cc
 
-turned_present : (act : Act) (kind : Kind) (o : Option Row) → is_grow_only kind ≡ true → allows kind act ≡ true → (act ≢ Insert → IsSome o) → ((row : Row) → o ≡ Some row → row.present ≡ true)
+turned_present : (act : Act) (kind : Kind) (o : Option Row) → is_grow_only kind ≡ true → kind_allows kind act ≡ true → IsFound act o → ((row : Row) → o ≡ Some row → row.present ≡ true)
     → unwrap_or (turn_of act) (stands o) ≡ true
 turned_present Insert kind o grows allowed found before = refl
-turned_present Update kind None grows allowed found before = absurd (let h : false ≡ true = found (λ e. cc) in cc)
+turned_present Update kind None grows allowed found before = absurd found
 turned_present Update kind (Some row) grows allowed found before = before row refl
 turned_present Remove kind o grows allowed found before = absurd (removes_none kind grows allowed)
 
-one_grown : (schema : List Declaration) (e : RowEffect) (t : Tables) → FitsSchema schema e → ((effect_of e).act ≢ Insert → IsSome (get t (effect_of e).place)) → AreGrown schema t → AreGrown schema (with_effect schema (effect_of e) t)
+one_grown : (schema : List Declaration) (e : RowEffect) (t : Tables) → FitsSchema schema e → IsFound (effect_of e).act (get t (effect_of e).place) → AreGrown schema t → AreGrown schema (with_effect schema (effect_of e) t)
 one_grown schema e t fits found grown table declaration key row declared grows kept =
     by (is_place (place_at table key) (effect_of e).place) refl (sym (get-insert place_total t (effect_of e).place (row_after schema (effect_of e) (get t (effect_of e).place)) (place_at table key)) ∙ kept)
   where
@@ -294,7 +295,7 @@ one_grown schema e t fits found grown table declaration key row declared grows k
         let here : place_at table key ≡ (effect_of e).place = tells_apart exact_places (place_at table key) (effect_of e).place h in
         let kind : fits.table ≡ declaration = same_some (slice_get schema table) fits.table declaration (ap (λ p. slice_get schema p.table) here ∙ fits.declared) declared in
         ap (λ r. r.present) (sym (same_row (row_after schema (effect_of e) (get t (effect_of e).place)) row is))
-        ∙ turned_present e.act declaration.kind (get t (effect_of e).place) grows (subst (λ d. allows d.kind e.act ≡ true) kind fits.fits.allowed) found
+        ∙ turned_present e.act declaration.kind (get t (effect_of e).place) grows (subst (λ d. kind_allows d.kind e.act ≡ true) kind fits.fits.allowed) found
         (λ old at. grown table declaration key old declared grows (ap (get t) here ∙ at))
 
 pub still_grown : (schema : List Declaration) (es : List RowEffect) (t : Tables) → AllFit schema es → FindsAll schema (map effect_of es) t → AreGrown schema t → AreGrown schema (with_effects schema (map effect_of es) t)

@@ -9,7 +9,7 @@ use Rattle.sv_app.specs.Tables.{Row, Tables}
 use Rattle.sv_effect.specs.Reads.{SeenValue}
 use Rattle.sv_effect.specs.Run.{row_with}
 use Rattle.sv_effect.specs.RunChanges.{Effect, stands}
-use Rattle.sv_effect.specs.Safe.{values_before}
+use Rattle.sv_effect.specs.Effects.{values_before}
 use Rattle.sv_effect.specs.TablesOfCut.{is_place}
 use Rattle.sv_check.specs.declared.left.LeftRow.{LeftRow}
 

@@ -6,7 +6,7 @@ use Rattle.sv_app.specs.Schema.{Invariant, Declaration}
 use Rattle.sv_app.specs.Tables.{Tables}
 use Rattle.sv_app.specs.Valid.{Valid, IsFirstBroken}
 use Rattle.sv_effect.specs.RunChanges.{Effect}
-use Rattle.sv_effect.specs.Safe.{with_effects, Fits, FindsAll}
+use Rattle.sv_effect.specs.Effects.{with_effects, Fits, FindsAll}
 use Rattle.sv_check.specs.declared.left.LeftRow.{LeftRow}
 use Rattle.sv_check.specs.declared.verdicts.Verdict.{Verdict}
 use Rattle.sv_check.specs.declared.verdicts.Verdict.TheVariants.{Keeps, Breaks}

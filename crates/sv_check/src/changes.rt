@@ -11,7 +11,7 @@ ghost use Rattle.sv_effect.specs.Fits.{FitsSchema, AllFit};
 ghost use Rattle.sv_effect.specs.Follows.{Follows};
 ghost use Rattle.sv_effect.specs.RowChange.{turn_of};
 ghost use Rattle.sv_effect.specs.RunChanges.{effect_of};
-ghost use Rattle.sv_effect.specs.Safe.{row_after, with_effect, with_effects};
+ghost use Rattle.sv_effect.specs.Effects.{row_after, with_effect, with_effects};
 ghost use Rattle.sv_check.specs.Bounds.{AreWordGots, IsBounded, LeftBounded, ChangesBounded};
 ghost use Rattle.sv_check.specs.Left.{over, left_row, left_rows, start_of};
 

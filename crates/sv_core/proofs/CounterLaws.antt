@@ -10,11 +10,15 @@ use Rattle.sv_app.specs.declared.schemas.Column.{Column}
 use Rattle.sv_app.specs.declared.schemas.Kind.TheVariants.{Uoset}
 use Rattle.sv_app.specs.declared.schemas.Ty.{Ty}
 use Rattle.sv_app.specs.declared.schemas.Ty.TheVariants.{Int}
-use Rattle.sv_app.specs.Kinds.{allows}
+use Rattle.sv_app.specs.Kinds.{kind_allows}
 use Rattle.sv_app.specs.Schema.{Declaration}
+use Rattle.sv_app.specs.Slots.{item}
 use Rattle.sv_effect.specs.declared.ops.RowEffect.{RowEffect}
 use Rattle.sv_effect.specs.declared.ops.Op.{Op}
 use Rattle.sv_effect.specs.RowChange.{is_annotated, key_values}
+use Rattle.sv_effect.specs.RunChanges.{key_in}
+use Rattle.sv_effect.specs.RunChanges as runs
+use Rattle.sv_effect.specs.RunValues.{nothing}
 use Rattle.sv_effect.specs.Applied.{place_of, columns_of, annotation_of, columns_in, annotated_in}
 use Rattle.sv_effect.specs.Fits.{HasType, KeyFits, is_key_column, FitsSchema, AllFit, OpFits}
 use Rattle.sv_effect.specs.Threatened.{is_plain_column, is_plain, any_threatened}
@@ -78,7 +82,7 @@ change_fits schema c n delta = record {
   declared = first_table schema c;
   fits = record {
     key = key_fits schema c n;
-    allowed = ap (λ k. allows k Update) c.kind;
+    allowed = ap (λ k. kind_allows k Update) c.kind;
     writes = (
       record {
         column = c.counter;
@@ -113,4 +117,5 @@ init_fits schema c row is = record {
   key = subst (λ k. KeyFits c.table.columns c.table.key (key_values k)) (sym is.named) (key_fits schema c is.key);
   values = subst (λ cs. ValuesFit cs row.values) (sym c.columns)
       (subst (ValuesFit (c.key ∷ c.counter ∷ [])) (sym is.values) (int_type c.key.ty is.key c.are.key_type, (int_type c.counter.ty is.count c.are.counter_type, tt)));
+  keyed = is.named ∙ sym (ap (λ names. key_in names row.values) c.named ∙ ap (key_in (c.name ∷ [])) is.values ∙ ap (λ n. runs.key_of (item nothing (IntVal is.key ∷ IntVal is.count ∷ []) n ∷ [])) c.is_key.number);
 }

@@ -15,7 +15,8 @@ use Rattle.sv_effect.specs.RowsFit.{TablesAreOf}
 use Rattle.sv_effect.specs.Fits.{CountsFit}
 use Rattle.sv_effect.proofs.PlaceListLaws.{among, among-append}
 use Rattle.sv_store.specs.Stored.{Stored}
-use Rattle.sv_effect.specs.Takes.{row_left, KeepsBounds, IsFound, FindsRows, inserts}
+use Rattle.sv_effect.specs.Acts.{IsFound}
+use Rattle.sv_effect.specs.Takes.{row_left, KeepsBounds, FindsRows, inserts}
 use Rattle.sv_core.specs.Document.{Document}
 use Rattle.sv_core.specs.Run.{key_of, change_by}
 use Rattle.sv_core.specs.Sound.{Sound}

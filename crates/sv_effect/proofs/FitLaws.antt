@@ -1,6 +1,7 @@
 -- Writes that fit their table suit the cells of a row of it, if the counts that they leave are in their bounds.
 use Rattle.std.proofs.Common.{◌≡◌, ℕ, zero, suc, ◌+◌, ◌<◌, ◌==◌, if◌then◌else◌, Bool, true, false, List, [], ◌∷◌, Some, slice_get, refl, sym, ap, ◌∙◌, arith, subst}
 use Rattle.std.specs.Prelude.{◌+ℤ◌, ℤ}
+use Rattle.std.specs.Option.{option_map}
 use Rattle.std.specs.Ordering.{is_lt}
 use Rattle.sv_value.specs.Orders.{stamp_cmp}
 use Rattle.sv_value.specs.declared.stamps.Stamp.{Stamp}
@@ -18,10 +19,10 @@ use Rattle.sv_effect.proofs.TestLaws.{same_test, other_test, test_same}
 use Rattle.sv_effect.proofs.WriteLaws.{each_with}
 
 -- the cell of a column
-record CellAt (column : Column) (cells : List Cell) (n : ℕ) : Type 0 where
-  cell : Cell
-  is : slice_get cells n ≡ Some cell
-  fits : CellFits column cell
+pub record CellAt (column : Column) (cells : List Cell) (n : ℕ) : Type 0 where
+  pub cell : Cell
+  pub is : slice_get cells n ≡ Some cell
+  pub fits : CellFits column cell
 
 same_column : (a b : Column) → Some a ≡ Some b → a ≡ b
 same_column a b e = cc
@@ -29,7 +30,7 @@ same_column a b e = cc
 same_cell : (a b : Cell) → Some a ≡ Some b → a ≡ b
 same_cell a b e = cc
 
-cell_at : (columns : List Column) (cells : List Cell) (n : ℕ) (column : Column) → CellsFit columns cells → slice_get columns n ≡ Some column → CellAt column cells n
+pub cell_at : (columns : List Column) (cells : List Cell) (n : ℕ) (column : Column) → CellsFit columns cells → slice_get columns n ≡ Some column → CellAt column cells n
 cell_at [] cells n column fits e = absurd cc
 cell_at (x ∷ columns) [] n column fits e = absurd fits
 cell_at (x ∷ columns) (cell ∷ cells) zero column fits e = record { cell = cell; is = refl; fits = subst (λ c. CellFits c cell) (same_column x column e) fits.0 }
@@ -73,13 +74,13 @@ narrow_at (Count x ∷ cells) (suc n) k fits e = narrow_at cells n k fits.1 e
 narrow_at (Last v s ∷ cells) (suc n) k fits e = narrow_at cells n k fits e
 narrow_at (Plain v ∷ cells) (suc n) k fits e = narrow_at cells n k fits e
 
-get_each : (f : ℕ → Cell → Cell) (k : ℕ) (cells : List Cell) (n : ℕ) (cell : Cell) → slice_get cells n ≡ Some cell → slice_get (each f k cells) n ≡ Some (f (k + n) cell)
-get_each f k [] n cell e = absurd cc
-get_each f k (x ∷ cells) zero cell e = let same : x ≡ cell = same_cell x cell e in let number : k ≡ (k + 0) = omega arith in λ i. Some (f (number i) (same i))
-get_each f k (x ∷ cells) (suc n) cell e = let number : (suc k + n) ≡ (k + suc n) = omega arith in get_each f (suc k) cells n cell e ∙ (λ i. Some (f (number i) cell))
+pub get_each : (f : ℕ → Cell → Cell) (k : ℕ) (cells : List Cell) (n : ℕ) → slice_get (each f k cells) n ≡ option_map (f (k + n)) (slice_get cells n)
+get_each f k [] n = refl
+get_each f k (x ∷ cells) zero = let number : k ≡ (k + 0) = omega arith in λ i. Some (f (number i) x)
+get_each f k (x ∷ cells) (suc n) = let number : (suc k + n) ≡ (k + suc n) = omega arith in get_each f (suc k) cells n ∙ (λ i. option_map (f (number i)) (slice_get cells n))
 
 -- later columns' writes are none to this one
-made_past : (s : Stamp) (n : ℕ) (ws : List (ℕ × Write)) (cell : Cell) → AllAbove n (columns_written ws) → made s n ws cell ≡ cell
+pub made_past : (s : Stamp) (n : ℕ) (ws : List (ℕ × Write)) (cell : Cell) → AllAbove n (columns_written ws) → made s n ws cell ≡ cell
 made_past s n [] cell above = refl
 made_past s n (w ∷ ws) cell above =
     let lt : n < w.0 = above.0 in
@@ -116,7 +117,7 @@ fit_suits table s (w ∷ ws) cells fits writes order counts = (
 
     narrow : (k : ℤ) → written s w.1 at.cell ≡ Count k → IsNarrow k
     narrow k e = narrow_at (each (λ c. made s c (w ∷ ws)) 0 cells) w.0 k counts
-        (get_each (λ c. made s c (w ∷ ws)) 0 cells w.0 at.cell at.is ∙ (λ i. Some (made s (number i) (w ∷ ws) at.cell)) ∙ ap (λ c. Some c) (made_once s w ws at.cell order.0 ∙ e))
+        (get_each (λ c. made s c (w ∷ ws)) 0 cells w.0 ∙ ap (option_map (made s (0 + w.0) (w ∷ ws))) at.is ∙ (λ i. Some (made s (number i) (w ∷ ws) at.cell)) ∙ ap (λ c. Some c) (made_once s w ws at.cell order.0 ∙ e))
 
 -- a column's writes keep the kind of its cell
 made_fits : (table : Declaration) (s : Stamp) (number : ℕ) (column : Column) (ws : List (ℕ × Write)) (cell : Cell) → slice_get table.columns number ≡ Some column → AreWrites table ws

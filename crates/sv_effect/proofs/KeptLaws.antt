@@ -30,7 +30,7 @@ same_column : (a b : Column) → Some a ≡ Some b → a ≡ b
 same_column a b e = cc
 
 -- the value that the key gives a column is of the column's type
-key_type : (columns : List Column) (names : List Ident) (vs : List Val) (number : ℕ) (column : Column) (v : Val) → KeyFits columns names vs → slice_get columns number ≡ Some column
+pub key_type : (columns : List Column) (names : List Ident) (vs : List Val) (number : ℕ) (column : Column) (v : Val) → KeyFits columns names vs → slice_get columns number ≡ Some column
     → HasType column.ty v → HasType column.ty (from_key names vs number v)
 key_type columns [] [] number column v fits declared has = has
 key_type columns [] (x ∷ vs) number column v fits declared has = has
@@ -43,7 +43,7 @@ key_type columns (name ∷ names) (x ∷ vs) number column v fits declared has =
         let same : fits.0.0 ≡ column = same_column fits.0.0 column (sym fits.0.1 ∙ ap (slice_get columns) (test_same name.num number is) ∙ declared) in
         subst (λ c. HasType c.ty x) same fits.0.2
 
-zero_type : (ty : Ty) → ty ≢ types.Ints → HasType ty (zero_of ty)
+pub zero_type : (ty : Ty) → ty ≢ types.Ints → HasType ty (zero_of ty)
 zero_type types.Int apart = tt
 zero_type types.Text apart = tt
 zero_type types.Ints apart = absurd (apart refl)

@@ -7,6 +7,7 @@ pub mod KeptLaws
 pub mod MediumLaws
 pub mod Members
 pub mod MergeLaws
+pub mod NewerLaws
 pub mod PlaceListLaws
 pub mod Promises
 pub mod RowLaws

@@ -11,6 +11,7 @@ use Rattle.sv_app.specs.declared.schemas.Merge.TheVariants as merges
 pub use Rattle.sv_app.specs.Fitting.{HasType}
 use Rattle.sv_app.specs.Kinds.{allows}
 use Rattle.sv_app.specs.Schema.{Declaration}
+pub use Rattle.sv_app.specs.Symbols.{is_key_column}
 use Rattle.sv_effect.specs.declared.cells.Cell.{Cell}
 use Rattle.sv_effect.specs.declared.cells.Cell.TheVariants.{Count, Last, Plain}
 use Rattle.sv_effect.specs.declared.ops.Write.{Write}
@@ -18,16 +19,13 @@ use Rattle.sv_effect.specs.declared.ops.Write.TheVariants.{Delta, Set}
 use Rattle.sv_effect.specs.declared.ops.RowEffect.{RowEffect}
 use Rattle.sv_effect.specs.declared.ops.Op.{Op}
 use Rattle.sv_effect.specs.RowChange.{key_values}
+use Rattle.sv_effect.specs.RunChanges.{Effect, effect_of}
 
 -- the values are of the columns that the key names, in order
 abbrev pub KeyFits : List Column → List Ident → List Val → Type 0
 KeyFits columns [] [] = Unit {0}
 KeyFits columns (name ∷ names) (v ∷ vs) = ((column : Column) × (slice_get columns name.num ≡ Some column) × HasType column.ty v) × KeyFits columns names vs
 KeyFits _ _ _ = ⊥
-
-abbrev pub is_key_column : List Ident → ℕ → Bool
-is_key_column [] number = false
-is_key_column (name ∷ names) number = name.num == number || is_key_column names number
 
 -- counters are written by deltas, other columns by values of their type
 abbrev pub WriteFits : Column → Write → Type 0
@@ -70,12 +68,25 @@ ActFits table Insert ws = WritesAll table ws
 ActFits table Update ws = Unit {0}
 ActFits table Remove ws = ws ≡ []
 
-pub record ChangeFits (table : Declaration) (e : RowEffect) : Type 0 where
-  pub key : KeyFits table.columns table.key (key_values e.key)
-  pub allowed : allows table.kind e.act ≡ true
-  pub writes : AreWrites table e.writes.items
-  pub order : Ascending (columns_written e.writes.items)
-  pub act : ActFits table e.act e.writes.items
+pub record SuitsTable (table : Declaration) (e : Effect) : Type 0 where
+  pub key : KeyFits table.columns table.key (key_values e.place.key)
+  pub allowed : allows table e.act ≡ true
+  pub writes : AreWrites table e.writes
+  pub order : Ascending (columns_written e.writes)
+  pub act : ActFits table e.act e.writes
+
+-- its table is one of the schema's
+pub record EffectFits (schema : List Declaration) (e : Effect) : Type 0 where
+  pub table : Declaration
+  pub declared : slice_get schema e.place.table ≡ Some table
+  pub fits : SuitsTable table e
+
+-- the same of a change as operations carry it
+abbrev pub ChangeFits : Declaration → RowEffect → Type 0
+ChangeFits table e = SuitsTable table (effect_of e)
+
+abbrev pub FitsSchema : List Declaration → RowEffect → Type 0
+FitsSchema schema e = EffectFits schema (effect_of e)
 
 -- the cell is of its column's kind
 abbrev pub CellFits : Column → Cell → Type 0
@@ -98,12 +109,6 @@ CountsFit [] = Unit {0}
 CountsFit (Count n ∷ cells) = IsNarrow n × CountsFit cells
 CountsFit (Last v s ∷ cells) = CountsFit cells
 CountsFit (Plain v ∷ cells) = CountsFit cells
-
--- its table is one of the schema's
-pub record FitsSchema (schema : List Declaration) (e : RowEffect) : Type 0 where
-  pub table : Declaration
-  pub declared : slice_get schema e.table ≡ Some table
-  pub fits : ChangeFits table e
 
 abbrev pub AllFit : List Declaration → List RowEffect → Type 0
 AllFit schema [] = Unit {0}

@@ -1,4 +1,4 @@
--- Initial rows fit the schema: the table of each is declared, its key and its values are of the columns' types, and no two stand at one place.
+-- Initial rows fit the schema: the table of each is declared, its values are of the columns' types, its key is the one that they show, and no two stand at one place.
 use Rattle.std.specs.Prelude.{◌≡◌, List, [], ◌∷◌, All, Some, slice_get}
 use Rattle.sv_value.specs.declared.values.Val.{Val}
 use Rattle.sv_app.specs.declared.requests.InitRow.{InitRow}
@@ -6,6 +6,7 @@ use Rattle.sv_app.specs.declared.schemas.Column.{Column}
 use Rattle.sv_app.specs.Schema.{Declaration}
 use Rattle.sv_effect.specs.RowChange.{key_values}
 use Rattle.sv_effect.specs.Fits.{HasType, KeyFits}
+use Rattle.sv_effect.specs.RunChanges.{key_in}
 use Rattle.sv_effect.specs.TablesOfCut.{init_place}
 
 -- a value of its type for each column
@@ -19,6 +20,7 @@ pub record InitFits (schema : List Declaration) (row : InitRow) : Type 0 where
   pub declared : slice_get schema row.table ≡ Some table
   pub key : KeyFits table.columns table.key (key_values row.key)
   pub values : ValuesFit table.columns row.values
+  pub keyed : row.key ≡ key_in table.key row.values
 
 abbrev pub AreDistinct : List InitRow → Type 0
 AreDistinct [] = Unit {0}

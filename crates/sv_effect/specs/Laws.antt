@@ -1,5 +1,5 @@
 -- The laws of the definitions: what holds of every cut, and of every operation.
-use Rattle.std.specs.Prelude.{◌≡◌, ◌≢◌, ◌⊎◌, ℕ, ◌<◌, ◌≤◌, Bool, false, List, [], ◌∷◌, Some, slice_get}
+use Rattle.std.specs.Prelude.{◌≡◌, ◌≢◌, ◌⊎◌, ℕ, ◌<◌, ◌≤◌, Bool, false, List, [], ◌∷◌, map, Some, slice_get}
 use Rattle.std.specs.Ordering.{is_lt}
 use Rattle.sv_value.specs.declared.values.Val.{Val}
 use Rattle.sv_value.specs.Orders.{stamp_cmp}
@@ -7,12 +7,17 @@ use Rattle.sv_value.specs.Cuts.{counts, more}
 use Rattle.sv_app.specs.declared.requests.InitRow.{InitRow}
 use Rattle.sv_app.specs.declared.schemas.Column.{Column}
 use Rattle.sv_app.specs.declared.schemas.Ty.TheVariants.{Ints}
+use Rattle.sv_app.specs.Accepted.{AcceptedSchema}
 use Rattle.sv_app.specs.Schema.{Declaration}
 use Rattle.sv_effect.specs.declared.ops.Op.{Op}
 use Rattle.sv_effect.specs.StampedTables.{Stamped, StampedTables}
 use Rattle.sv_effect.specs.Cut.{Cut, Medium, empty}
 use Rattle.sv_effect.specs.Applied.{applied}
+use Rattle.sv_effect.specs.BareTables.{bare}
+use Rattle.sv_effect.specs.Effects.{with_effects}
 use Rattle.sv_effect.specs.Fits.{OpFits}
+use Rattle.sv_effect.specs.Newer.{IsNewer}
+use Rattle.sv_effect.specs.RunChanges.{effect_of}
 use Rattle.sv_effect.specs.Threatened.{any_threatened}
 use Rattle.sv_effect.specs.TablesOfCut.{greatest, tables_held, tables_of}
 use Rattle.sv_effect.specs.Commutes.{TablesFit, Commutes}
@@ -63,6 +68,11 @@ GreatestIs = IsGreatest Val × IsGreatest Bool
 -- an operation that `plain` doesn't threaten commutes
 abbrev pub UnthreatenedCommute : Type 0
 UnthreatenedCommute = (schema : List Declaration) (op : Op) → OpFits schema op → any_threatened schema op.effects ≡ false → Commutes schema op
+
+-- an operation that is newer than the tables shows there as its changes made in order, each write winning
+abbrev pub NewerWins : Type 0
+NewerWins = (schema : List Declaration) (op : Op) (t : StampedTables) → AcceptedSchema schema → OpFits schema op → TablesFit schema t → IsNewer op t
+    → bare (applied schema op t) ≡ with_effects schema (map effect_of op.effects) (bare t)
 
 -- no column has the type of lists
 abbrev pub HasNoLists : List Declaration → Type 0

@@ -1,9 +1,7 @@
 -- What a run needs besides its changes: kept rows for updates and removes, and present rows for references to grow-only tables.
-use Rattle.std.specs.Prelude.{ℕ, ◌==◌, ◌&&◌, not, if◌then◌else◌, Bool, true, false, List, [], ◌∷◌, ◌++◌, Option, Some, None, slice_get}
+use Rattle.std.specs.Prelude.{ℕ, ◌==◌, ◌&&◌, not, if◌then◌else◌, Bool, false, List, [], ◌∷◌, ◌++◌, Option, Some, None, slice_get}
 use Rattle.std.specs.List.{list_any, flat_map}
 use Rattle.sv_value.specs.declared.values.Val.{Val}
-use Rattle.sv_app.specs.declared.acts.Act.{Act}
-use Rattle.sv_app.specs.declared.acts.Act.TheVariants.{Insert, Update, Remove}
 use Rattle.sv_app.specs.declared.apps.Ident.{Ident}
 use Rattle.sv_app.specs.declared.places.Place.{Place}
 use Rattle.sv_app.specs.Schema.{Rule, Bound, OneOf, Different, Refers, Declaration}
@@ -12,14 +10,10 @@ use Rattle.sv_effect.specs.declared.ops.Need.{Need}
 use Rattle.sv_effect.specs.declared.ops.Need.TheVariants as needs
 use Rattle.sv_effect.specs.declared.ops.Write.{Write}
 use Rattle.sv_effect.specs.declared.ops.Write.TheVariants.{Delta, Set}
+use Rattle.sv_effect.specs.Acts.{is_insert}
 use Rattle.sv_effect.specs.RowChange.{key_values}
 use Rattle.sv_effect.specs.RunChanges.{Effect}
 use Rattle.sv_effect.specs.TablesOfCut.{is_place}
-
-abbrev pub is_insert : Act → Bool
-is_insert Insert = true
-is_insert Update = false
-is_insert Remove = false
 
 -- whether one of the changes inserts the row
 abbrev pub is_inserted : Place → List Effect → Bool

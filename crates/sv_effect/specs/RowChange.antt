@@ -72,7 +72,10 @@ changed annotated s e row = record {
 
 abbrev pub is_annotated : Kind → Bool
 is_annotated kinds.Plain = false
-is_annotated _ = true
+is_annotated kinds.Aoset = true
+is_annotated kinds.Uoset = true
+is_annotated kinds.Auset = true
+is_annotated kinds.Arset = true
 
 -- the cell of a column that has a value from the start
 abbrev pub cell_from : Merge → Val → Cell

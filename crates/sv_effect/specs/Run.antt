@@ -25,7 +25,7 @@ use Rattle.sv_effect.specs.declared.outcomes.Outcome.TheVariants as outcomes
 use Rattle.sv_effect.specs.declared.outcomes.Ran.{Ran}
 use Rattle.sv_effect.specs.Needs.{needs_of}
 use Rattle.sv_effect.specs.RunChanges.{Effect, effect_of, key_of, key_in, with_writes, sets_made, in_order, inserts, kept_values, stands}
-use Rattle.sv_effect.specs.RunValues.{nothing, Progress, Scope, with_progress, Evaluated, Leaves, Gives, then_value, value_of, values_of, truth_of}
+use Rattle.sv_effect.specs.RunValues.{nothing, Progress, Scope, with_progress, forgetting, Evaluated, Leaves, Gives, then_value, value_of, values_of, truth_of}
 
 -- what a run is made of: the schema, the arguments, and the variables of its loops in the order of the text
 pub record Setting : Type 0 where
@@ -102,12 +102,16 @@ row_with values present = record { values = values; present = present }
 
 -- `old` is the row before the update
 abbrev pub updating : List Got → Scope → Scope
-updating values s = record s { old = values; progress = record s.progress { known_old = [] } }
+updating values s = record s { old = values; progress = forgetting s.progress }
+
+-- and behind it no column of that row is known
+abbrev pub update_over : Stand → Stand
+update_over st = with_scope st (with_progress st.scope (forgetting st.scope.progress))
 
 abbrev pub updated : Declaration → Place → List (Ident × Term) → Stand → Row → Flow
 updated table p sets st row = on_value (sets_made table.columns sets (updating row.values st.scope)) st (λ ws z.
     let writes = in_order table 0 table.columns ws in
-    changed (record { place = p; act = acts.Update; writes = writes; instance = z.scope.progress.number }) (row_with (with_writes writes row.values) true) z)
+    changed (record { place = p; act = acts.Update; writes = writes; instance = z.scope.progress.number }) (row_with (with_writes writes row.values) true) (update_over z))
 
 abbrev pub inserted : Declaration → Place → List Val → Option Row → Stand → Flow
 inserted table p vs row st = if stands row then Ends outcomes.Exists else
@@ -249,8 +253,19 @@ started arguments t = record {
   instances = [];
 }
 
+abbrev pub flow_of_body : List Declaration → Block → List Arg → Tables → Flow
+flow_of_body schema body arguments t = run_block (record { schema = schema; arguments = arguments; loops = loop_variables body }) body (started arguments t)
+
 abbrev pub run_body : List Declaration → Block → List Arg → Tables → RunResult
-run_body schema body arguments t = result_of schema (run_block (record { schema = schema; arguments = arguments; loops = loop_variables body }) body (started arguments t))
+run_body schema body arguments t = result_of schema (flow_of_body schema body arguments t)
 
 abbrev pub run : List Declaration → List Transaction → Request → Tables → RunResult
 run schema txns request t = run_body schema (body_of (slice_get txns request.txn)) request.args t
+
+-- the tables that a run leaves; one that isn't done leaves those that it began on
+abbrev pub left_of : Tables → Flow → Tables
+left_of t (Goes st) = st.tables
+left_of t (Ends o) = t
+
+abbrev pub tables_left : List Declaration → List Transaction → Request → Tables → Tables
+tables_left schema txns request t = left_of t (flow_of_body schema (body_of (slice_get txns request.txn)) request.args t)

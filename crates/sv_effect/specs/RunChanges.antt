@@ -1,5 +1,5 @@
 -- What one statement of a run changes: the writes of an update and of an insert, and the row after them.
-use Rattle.std.specs.Prelude.{ℕ, suc, ℤ, pos, ◌+ℤ◌, ◌-ℤ◌, ◌==◌, if◌then◌else◌, Bool, true, false, List, [], ◌∷◌, ◌++◌, Option, Some, None, map, slice_get}
+use Rattle.std.specs.Prelude.{ℕ, suc, ℤ, pos, ◌+ℤ◌, ◌-ℤ◌, if◌then◌else◌, Bool, true, false, List, [], ◌∷◌, Option, Some, None, map, slice_get}
 use Rattle.sv_value.specs.declared.values.Key.{Key}
 use Rattle.sv_value.specs.declared.values.Val.{Val}
 use Rattle.sv_app.specs.declared.acts.Act.{Act}
@@ -11,8 +11,11 @@ use Rattle.sv_app.specs.declared.schemas.Column.{Column}
 use Rattle.sv_app.specs.declared.schemas.Merge.{Merge}
 use Rattle.sv_app.specs.declared.schemas.Merge.TheVariants as merges
 use Rattle.sv_app.specs.Schema.{Declaration}
+use Rattle.sv_app.specs.Fitting.{number_in}
 use Rattle.sv_app.specs.Slots.{item, with_item}
+pub use Rattle.sv_app.specs.Paths.{merge_in}
 use Rattle.sv_app.specs.Symbols.{is_key_column}
+pub use Rattle.sv_app.specs.Writes.{writes_at, in_order}
 use Rattle.sv_app.specs.Tables.{Row}
 use Rattle.sv_app.specs.Trees.{Term}
 use Rattle.sv_effect.specs.declared.ops.Write.{Write}
@@ -23,7 +26,6 @@ use Rattle.sv_app.specs.Kinds.{is_grow_only}
 use Rattle.sv_effect.specs.BareTables.{got_of}
 use Rattle.sv_effect.specs.RowChange.{zero_values}
 use Rattle.sv_effect.specs.RunValues.{nothing, put, Scope, with_progress, narrow, Evaluated, Leaves, Gives, then_value, val_of, column, read_old, value_of}
-use Rattle.sv_effect.specs.TablesOfCut.{number_in}
 
 -- a change of a run, with the number of its instance
 pub record Effect : Type 0 where
@@ -72,11 +74,8 @@ delta_to new old s = step (narrow (number_in new -ℤ number_in old)) s
 -- an update sets a counter by what it adds to the value now, another column by the value
 abbrev pub set_of : Merge → ℕ → Val → Scope → Evaluated Write
 set_of merges.NumDelta c v s = then_value (read_old c s) (delta_to v)
-set_of _ c v s = Gives (Set v) s
-
-abbrev pub merge_in : Option Column → Merge
-merge_in None = merges.Plain
-merge_in (Some column) = column.merge
+set_of merges.Plain c v s = Gives (Set v) s
+set_of merges.Lww c v s = Gives (Set v) s
 
 abbrev pub merge_of : List Column → ℕ → Merge
 merge_of columns c = merge_in (slice_get columns c)
@@ -87,16 +86,6 @@ sets_made columns [] s = Gives [] s
 sets_made columns (set ∷ sets) s = then_value (value_of set.1 s) (λ v u. then_value (set_of (merge_of columns set.0.num) set.0.num v u)
     (λ w z. then_value (sets_made columns sets z) (λ ws q. Gives ((set.0.num, w) ∷ ws) q)))
 
--- the writes to a column
-abbrev pub writes_at : ℕ → List (ℕ × Write) → List (ℕ × Write)
-writes_at c [] = []
-writes_at c (w ∷ ws) = if w.0 == c then w ∷ [] else writes_at c ws
-
--- the same in column order
-abbrev pub in_order : Declaration → ℕ → List Column → List (ℕ × Write) → List (ℕ × Write)
-in_order table c [] ws = []
-in_order table c (column ∷ columns) ws = (if is_key_column table.key c then [] else writes_at c ws) ++ in_order table (suc c) columns ws
-
 -- an insert writes a counter by what it adds to the kept value, which is a symbol; in a grow-only table nothing is kept
 abbrev pub kept_to : Val → Option Val → Scope → Evaluated Write
 kept_to new None s = Leaves
@@ -105,7 +94,8 @@ kept_to new (Some old) s = delta_to new old (with_progress s (put old s.progress
 abbrev pub insert_of : Bool → Merge → Val → Got → Scope → Evaluated Write
 insert_of true merges.NumDelta v kept s = Gives (Delta (number_in v)) s
 insert_of false merges.NumDelta v kept s = kept_to v (val_of kept) s
-insert_of grows _ v kept s = Gives (Set v) s
+insert_of grows merges.Plain v kept s = Gives (Set v) s
+insert_of grows merges.Lww v kept s = Gives (Set v) s
 
 -- the writes of an insert, to each column outside the key
 abbrev pub inserts : Declaration → List Val → List Got → ℕ → List Column → Scope → Evaluated (List (ℕ × Write))

@@ -13,10 +13,10 @@ use Rattle.sv_app.specs.declared.instances.Source.{Source}
 use Rattle.sv_app.specs.declared.instances.Source.TheVariants as sources
 use Rattle.sv_app.specs.declared.txns.Rel.{Rel}
 use Rattle.sv_app.specs.declared.txns.Rel.TheVariants as rels
+use Rattle.sv_app.specs.Fitting.{number_in}
 use Rattle.sv_app.specs.Slots.{item}
 use Rattle.sv_app.specs.Symbols.{is_known, is_factor}
 use Rattle.sv_app.specs.Trees.{Term, Number, Words, Variable, Field, Old, Minus, Sum, Difference, Product, Test, Compare, Negation, Both, Either}
-use Rattle.sv_effect.specs.TablesOfCut.{number_in}
 
 abbrev pub nothing : Val
 nothing = Int (pos 0)
@@ -47,6 +47,10 @@ brought source v p = if is_known source p.known then p else put v (record p { kn
 
 abbrev pub brought_old : ℕ → Val → Progress → Progress
 brought_old c v p = if list_any (λ d. c == d) p.known_old then p else put v (record p { known_old = p.known_old ++ c ∷ [] })
+
+-- no column of a row that is updated is known, before an update and after it
+abbrev pub forgetting : Progress → Progress
+forgetting p = record p { known_old = [] }
 
 abbrev pub chosen : Bool → Progress → Progress
 chosen holds p = record p { choices = p.choices ++ holds ∷ [] }

@@ -8,12 +8,12 @@ use Rattle.std.specs.FinMap.{insert}
 use Rattle.std.specs.FinMap as fin
 use Rattle.sv_value.specs.declared.stamps.Stamp.{Stamp}
 use Rattle.sv_value.specs.declared.values.Val.{Val}
-use Rattle.sv_value.specs.declared.values.Val.TheVariants.{Int, Text as IsText}
 use Rattle.sv_app.specs.declared.places.Place.{Place}
 use Rattle.sv_app.specs.declared.requests.InitRow.{InitRow}
 use Rattle.sv_app.specs.declared.schemas.Column.{Column}
 use Rattle.sv_app.specs.declared.schemas.Merge.{Merge}
 use Rattle.sv_app.specs.declared.schemas.Merge.TheVariants as merges
+pub use Rattle.sv_app.specs.Fitting.{number_in}
 use Rattle.sv_app.specs.Schema.{Declaration}
 use Rattle.sv_app.specs.Tables.{place_cmp}
 use Rattle.sv_effect.specs.declared.cells.Cell.{Cell}
@@ -96,10 +96,6 @@ last x (y ∷ ys) = last y ys
 
 abbrev pub started : {A : Type 0} → A → Stamped A
 started x = record { value = x; stamp = zero_stamp }
-
-abbrev pub number_in : Val → ℤ
-number_in (Int n) = n
-number_in (IsText _) = pos 0
 
 abbrev pub plain_cell : Stamped Val → Cell
 plain_cell x = Plain x.value

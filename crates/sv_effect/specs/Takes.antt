@@ -1,5 +1,5 @@
 -- What a store asks of an operation: rows that are updated or removed are there, counts stay in their bounds, and there is room for the inserts.
-use Rattle.std.specs.Prelude.{ℕ, ◌+◌, List, [], ◌∷◌, Option, Some, None, unwrap_or}
+use Rattle.std.specs.Prelude.{ℕ, ◌+◌, List, [], ◌∷◌, unwrap_or}
 use Rattle.std.specs.FinMap.{get}
 use Rattle.sv_app.specs.declared.acts.Act.{Act}
 use Rattle.sv_app.specs.declared.acts.Act.TheVariants.{Insert, Update, Remove}
@@ -7,6 +7,7 @@ use Rattle.sv_app.specs.Schema.{Declaration}
 use Rattle.sv_effect.specs.declared.ops.RowEffect.{RowEffect}
 use Rattle.sv_effect.specs.StampedTables.{StampedRow, StampedTables}
 use Rattle.sv_effect.specs.Applied.{Change, place_of, zero_row_in, changed_at, with_change_at}
+use Rattle.sv_effect.specs.Acts.{IsFound}
 use Rattle.sv_effect.specs.Fits.{CountsFit}
 
 -- the row that a change leaves
@@ -17,14 +18,6 @@ row_left schema c t = changed_at schema (place_of c.value) c (unwrap_or (get t (
 abbrev pub KeepsBounds : List Declaration → List Change → StampedTables → Type 0
 KeepsBounds schema [] t = Unit {0}
 KeepsBounds schema (c ∷ cs) t = CountsFit (row_left schema c t).cells × KeepsBounds schema cs (with_change_at schema (place_of c.value) c t)
-
--- an update or a remove is of a row that is kept
-abbrev pub IsFound : Act → Option StampedRow → Type 0
-IsFound Insert o = Unit {0}
-IsFound Update None = ⊥
-IsFound Update (Some row) = Unit {0}
-IsFound Remove None = ⊥
-IsFound Remove (Some row) = Unit {0}
 
 -- each of the changes finds its row, where earlier ones may have inserted it
 abbrev pub FindsRows : List Declaration → List Change → StampedTables → Type 0

@@ -1,6 +1,6 @@
 //! What the definitions promise, as calls that do nothing: their contracts are the laws.
 
-ghost use Rattle.sv_effect.specs.Laws.{OneMore, AnySequence, GreatestIs, FittingKept, UnthreatenedCommute};
+ghost use Rattle.sv_effect.specs.Laws.{OneMore, AnySequence, GreatestIs, FittingKept, UnthreatenedCommute, NewerWins};
 
 /// The next operation of an origin, applied to the tables of a cut, gives the tables of the cut that has it too, of
 /// whatever else the cut has and in whatever order that came. This is so where the schema allows the operations, no
@@ -36,4 +36,11 @@ pub fn unthreatened_commute()
 #[tactic(auto, using(crate::proofs::Promises::fitting_kept))]
 pub fn fitting_kept()
     ensures { FittingKept }
+{}
+
+/// An operation that the schema allows, applied to rows of the schema in which every stamp has an earlier time, shows
+/// as its changes made in order, each write winning.
+#[tactic(auto, using(crate::proofs::NewerLaws::newer_wins))]
+pub fn newer_wins()
+    ensures { NewerWins }
 {}

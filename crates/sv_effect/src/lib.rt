@@ -15,7 +15,9 @@ mod seen;
 pub use asks::{ask_next, ask_row};
 pub use cells::{Cell, Row};
 pub use changes::apply_row;
-pub use laws::{any_sequence, fitting_kept, greatest_is, one_more, unthreatened_commute};
+pub use laws::{
+    any_sequence, fitting_kept, greatest_is, newer_wins, one_more, unthreatened_commute,
+};
 pub use noted::Noted;
 pub use ops::{Need, Op, RowEffect, Write};
 pub use outcomes::{Outcome, Ran};

@@ -19,7 +19,8 @@ use Rattle.sv_interp.specs.declared.states.State.{State}
 use Rattle.sv_interp.specs.Machine.{stand}
 use Rattle.sv_interp.specs.Keeping.{calm, IsSettingOf, Statements, Keeps}
 use Rattle.sv_interp.specs.Results.{IsRunnable, IsBodyOf, RunFits}
-use Rattle.sv_trace.specs.Standing.{Frame, BlockIn, EffectFits, Holds, Passes}
+use Rattle.sv_effect.specs.Fits.{EffectFits}
+use Rattle.sv_trace.specs.Standing.{Frame, BlockIn, Holds, Passes}
 use Rattle.sv_trace.proofs.ChangeLaws.{all_fit}
 use Rattle.sv_trace.proofs.OpeningLaws.{body_in, begins, completes}
 

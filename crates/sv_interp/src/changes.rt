@@ -85,6 +85,7 @@ pub fn update_row(
         values,
         present: true,
     };
+    state.end_update(alloc);
     change(state, place, Act::Update, writes.items(), left)
 }
 

@@ -1,7 +1,7 @@
 ghost use Rattle.std.specs.Prelude.{◌≡◌, ◌++◌, ◌∷◌, [], ℕ, OnOk, IfOk, Some, None, map, suc, length};
 ghost use Rattle.sv_app.specs.Trees.{block_of};
 ghost use Rattle.sv_app.specs.Tables.{Tables};
-ghost use Rattle.sv_effect.specs.Run.{Goes, assigned, with_row, with_scope, with_value, changed, row_with, updating, replied, beginning, instance_of, begun, closed, left_loop};
+ghost use Rattle.sv_effect.specs.Run.{Goes, assigned, with_row, with_scope, with_value, changed, row_with, updating, update_over, replied, beginning, instance_of, begun, closed, left_loop};
 ghost use Rattle.sv_interp.specs.Machine.{progress_of, scope_of, stand, flow_of};
 
 use crate::loops::{known_after, put_assigned};
@@ -89,6 +89,13 @@ impl State {
         ensures { (t : Tables) → stand t self.new ≡ with_scope (stand t self.old) (updating values (stand t self.old).scope) }
     {
         self.scope.before = values;
+        self.scope.progress.known_old = List::new(alloc);
+    }
+
+    /// Forgets the columns of the row that was updated.
+    pub fn end_update(&mut self, alloc: Global)
+        ensures { (t : Tables) → stand t self.new ≡ update_over (stand t self.old) }
+    {
         self.scope.progress.known_old = List::new(alloc);
     }
 

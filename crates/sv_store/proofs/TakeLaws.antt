@@ -17,7 +17,8 @@ use Rattle.sv_effect.specs.RowChange.{changed, row_from, zero_row}
 use Rattle.sv_effect.specs.Applied.{Change, place_of, changes_from, columns_of, annotation_of, zeros_of, with_change_at, with_changes}
 use Rattle.sv_effect.specs.Fits.{FitsSchema, AllFit, ChangeFits, CellsFit, CountsFit}
 use Rattle.sv_effect.specs.RowsFit.{TablesAreOf}
-use Rattle.sv_effect.specs.Takes.{row_left, KeepsBounds, IsFound, FindsRows, as_insert, inserts}
+use Rattle.sv_effect.specs.Acts.{IsFound}
+use Rattle.sv_effect.specs.Takes.{row_left, KeepsBounds, FindsRows, as_insert, inserts}
 use Rattle.sv_effect.proofs.KeptLaws.{zero_fits}
 use Rattle.sv_effect.proofs.SourceLaws.{fit_rows, change_is_of}
 use Rattle.sv_store.specs.Stored.{Stored, HasRoom, room_after, with_row}

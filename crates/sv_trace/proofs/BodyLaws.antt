@@ -36,7 +36,7 @@ use Rattle.sv_app.specs.TxnTyping.{at_table, no_table, kind_faults, count_faults
 use Rattle.sv_app.specs.Typing.{fault_if, repeats, no_column, is_same_type}
 use Rattle.sv_app.specs.Units.{Loop, command_loops, block_loops, units, loop_variables, unit_of}
 use Rattle.sv_app.proofs.AcceptedLaws.{front_none, back_none, no_fault}
-use Rattle.sv_trace.specs.Standing.{Frame, names_in, Allows, AreOfColumns, SetsSuit, TypeIs, TableIs, Suits, BlockSuits, AllRead}
+use Rattle.sv_trace.specs.Standing.{Frame, names_in, Allows, AreOfColumns, SetsSuit, TypeIs, TableIs, Suits, BlockSuits, AllRead, IsValue, Means}
 use Rattle.sv_trace.proofs.DeclareLaws.{command_declares, block_declares, after, after_append, not_before, HereFrom, here_split, agree_then, agree_fewer, here_number, here_table, block_stays}
 use Rattle.sv_trace.proofs.NamingLaws.{all, in_update, Agree, IsTable, MeaningIs, KnownIs, AllKnown, known_more, UpdatedIs, TermIs, term_is, terms_read, test_reads, bad_fault, found}
 use Rattle.sv_trace.proofs.SchemaLaws.{table_named, column_named, own_first, columns_once}
@@ -71,7 +71,7 @@ at_right schema t rule own right = by_table (table_of schema t) refl right
     by_table None e right = absurd cc
     by_table (Some d) e right = record { is = record { table = d; named = e; at = table_named schema t d own e }; right = right }
 
-there : (schema : List Declaration) (t : Ident) → numbered_in (table_names schema) t ≡ t → no_table schema t ≡ [] → IsTable schema t
+pub there : (schema : List Declaration) (t : Ident) → numbered_in (table_names schema) t ≡ t → no_table schema t ≡ [] → IsTable schema t
 there schema t own right = by_table (table_of schema t) refl (no_fault (is_none (table_of schema t)) t.spot Unknown right)
   where
     by_table : (o : Option Declaration) → table_of schema t ≡ o → is_none o ≡ false → IsTable schema t
@@ -79,7 +79,7 @@ there schema t own right = by_table (table_of schema t) refl (no_fault (is_none 
     by_table (Some d) e known = record { table = d; named = e; at = table_named schema t d own e }
 
 allowed : (schema : List Declaration) (t : Ident) (is : IsTable schema t) (act : Act) → kind_faults is.table act t ≡ [] → Allows schema t act
-allowed schema t is act right d at = subst (λ (x : Declaration). allows x.kind act ≡ true) (same_table schema t.num is.table d is.at at) (by_kind (allows is.table.kind act) (no_fault (not (allows is.table.kind act)) t.spot Kind right))
+allowed schema t is act right d at = subst (λ (x : Declaration). allows x act ≡ true) (same_table schema t.num is.table d is.at at) (by_kind (allows is.table act) (no_fault (not (allows is.table act)) t.spot Kind right))
   where
     by_kind : (b : Bool) → not b ≡ false → b ≡ true
     by_kind true e = refl
@@ -99,7 +99,7 @@ module _ (f : Frame) (accepted : AcceptedSchema f.schema) (once : repeats (txn_n
   abbrev pub at : List Known → Scope
   at known = record { schema = f.schema; known = known; updated = None }
 
-  scope_is : (known : List Known) (c : Command) → behind (at known) c ≡ at (behind (at known) c).known
+  pub scope_is : (known : List Known) (c : Command) → behind (at known) c ≡ at (behind (at known) c).known
   scope_is known (Declare x e) = refl
   scope_is known (Assign x e) = refl
   scope_is known (Fetch r t k) = refl
@@ -179,14 +179,14 @@ module _ (f : Frame) (accepted : AcceptedSchema f.schema) (once : repeats (txn_n
           (ap (λ o. option_map (λ (x : Column). x.ty) o) e) term_type right_is in
           sym same ∙ sym (ap (λ o. type_in (slice_get (columns_at o) set.0.num)) is.at ∙ ap type_in (column_named is.table set.0 c own_is e))
 
-  value_known : (k : ℕ) (x : Ident) (m : Meaning) → numbered_name (all f) x ≡ x → x.num ≡ k → MeaningIs f m x → KnownIs f (suc k) (record { name = x; meaning = m })
+  pub value_known : (k : ℕ) (x : Ident) (m : Meaning) → numbered_name (all f) x ≡ x → x.num ≡ k → MeaningIs f m x → KnownIs f (suc k) (record { name = x; meaning = m })
   value_known k x m own number meaning = record { own = own; below = omega (arith, number); meaning = meaning }
 
   row_table : (t : Ident) (rule : Declaration → List Refusal) (more : List Refusal) → numbered_table_name (all f) t ≡ t → at_table (table_of f.schema t) t rule ++ more ≡ [] → AtTable f.schema t rule
   row_table t rule more own right = at_right f.schema t rule own (front_none (at_table (table_of f.schema t) t rule) more right)
 
   -- what is known behind a statement
-  known_behind : (c : Command) (known : List Known) (k : ℕ) → AllKnown f k known → numbered_command (all f) c ≡ c → HereFrom f k (command_declares c) → command_faults (at known) c ≡ [] → Suits f (at known) c
+  pub known_behind : (c : Command) (known : List Known) (k : ℕ) → AllKnown f k known → numbered_command (all f) c ≡ c → HereFrom f k (command_declares c) → command_faults (at known) c ≡ [] → Suits f (at known) c
       → AllKnown f (after k (command_declares c)) (behind (at known) c).known
   known_behind (Declare x e) known k is own here right suits =
       let same : numbered_name (all f) x ≡ x = cc in
@@ -218,15 +218,15 @@ module _ (f : Frame) (accepted : AcceptedSchema f.schema) (once : repeats (txn_n
 
   -- an assignment is of its variable's type
   assigned_type : (k : ℕ) (known : List Known) (x : Ident) (e : Term) → AllKnown f k known → numbered_name (all f) x ≡ x → terms.type_of (at known) e ≡ Some (type_of f.schema last_names 0 e)
-      → assignment_faults (at known) (meaning_of (at known) x) x e ≡ [] → TypeIs f x (type_of f.schema last_names 0 e)
+      → assignment_faults (at known) (meaning_of (at known) x) x e ≡ [] → TypeIs f x (type_of f.schema last_names 0 e) × Means IsValue known x.num
   assigned_type k known x e is own typed right = by_meaning (meaning_of (at known) x) refl right
     where
-      by_meaning : (o : Option Meaning) → meaning_of (at known) x ≡ o → assignment_faults (at known) o x e ≡ [] → TypeIs f x (type_of f.schema last_names 0 e)
+      by_meaning : (o : Option Meaning) → meaning_of (at known) x ≡ o → assignment_faults (at known) o x e ≡ [] → TypeIs f x (type_of f.schema last_names 0 e) × Means IsValue known x.num
       by_meaning None named right = absurd (bad_fault f x.spot Unknown right)
       by_meaning (Some (Parameter ty)) named right = absurd (bad_fault f x.spot Typing right)
       by_meaning (Some (Local ty)) named right =
           let here = found f k known x (Local ty) is own named in
-          not_apart ty (terms.type_of (at known) e) (item types.Int last_names.types x.num) (type_of f.schema last_names 0 e) (spot_of e) here.meaning typed right
+          (not_apart ty (terms.type_of (at known) e) (item types.Int last_names.types x.num) (type_of f.schema last_names 0 e) (spot_of e) here.meaning typed right, here.as_value tt)
       by_meaning (Some (RowOf t)) named right = absurd (bad_fault f x.spot Typing right)
       by_meaning (Some Element) named right = absurd (bad_fault f x.spot Typing right)
 
@@ -246,7 +246,8 @@ module _ (f : Frame) (accepted : AcceptedSchema f.schema) (once : repeats (txn_n
         let same : numbered_name (all f) x ≡ x = cc in
         let term_own : numbered_term (all f) e ≡ e = cc in
         let term = plain_term k known e is (back_none (assignment_faults (at known) (meaning_of (at known) x) x e) (term_faults (at known) e) right) term_own in
-        (term.reads, assigned_type k known x e is same term.type (front_none (assignment_faults (at known) (meaning_of (at known) x) x e) (term_faults (at known) e) right))
+        let assigned = assigned_type k known x e is same term.type (front_none (assignment_faults (at known) (meaning_of (at known) x) x e) (term_faults (at known) e) right) in
+        (term.reads, assigned.0, assigned.1)
     command_suits (Fetch r t key) known n k is own here right inner begin final loops =
         let same : numbered_name (all f) r ≡ r = cc in
         let keys_own : numbered_terms (all f) key ≡ key = cc in (

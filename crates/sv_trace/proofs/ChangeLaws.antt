@@ -22,12 +22,12 @@ use Rattle.sv_app.specs.Trees.{Term, Remove}
 use Rattle.sv_app.proofs.PlaceLaws.{place_total, exact_places}
 use Rattle.sv_effect.specs.declared.ops.RowEffect.{RowEffect}
 use Rattle.sv_effect.specs.declared.outcomes.Outcome.TheVariants as outcomes
-use Rattle.sv_effect.specs.Fits.{FitsSchema, AllFit}
+use Rattle.sv_effect.specs.Fits.{EffectFits, AllFit}
 use Rattle.sv_effect.specs.Run.{Stand, Goes, Ends, with_scope, place_of_row, changed, row_with, removed}
 use Rattle.sv_effect.specs.RunChanges.{Effect, effect_of}
 use Rattle.sv_effect.specs.RunValues.{Scope as Values, Gives, values_of}
 use Rattle.sv_effect.specs.RowsFit.{GotFits, GotsFit, ValuesAreOf}
-use Rattle.sv_trace.specs.Standing.{Frame, names_in, type_of_got, CommandIn, RowIs, RowAt, EffectFits, Holds, Along, Makes}
+use Rattle.sv_trace.specs.Standing.{Frame, names_in, type_of_got, CommandIn, RowIs, RowAt, Holds, Along, Makes}
 use Rattle.sv_trace.proofs.StatementLaws.{same_stand, went_holds, along_went}
 use Rattle.sv_trace.proofs.TermLaws.{all_evaluate}
 
@@ -91,7 +91,7 @@ makes_remove f at t k st vs z row end command holds is found goes =
     let way = terms_way f.schema (names_in f) k in
     let p : Place = place_of_row t vs in
     let e : Effect = record { place = p; act = acts.Remove; writes = []; instance = z.progress.number } in
-    let fits : EffectFits f.schema e = record { table = found.key.table; declared = found.key.declared; key = found.key.fits; allowed = command.suits.1 found.key.table found.key.declared; writes = tt; order = tt; act = refl } in
+    let fits : EffectFits f.schema e = record { table = found.key.table; declared = found.key.declared; fits = record { key = found.key.fits; allowed = command.suits.1 found.key.table found.key.declared; writes = tt; order = tt; act = refl } } in
     let typed : RowIs f.schema p row.values = found in
     let done = changes f at e (row_with row.values false) (with_scope st z) end (went_holds f at way st z holds values.went) fits typed goes in
     record {
@@ -99,10 +99,7 @@ makes_remove f at t k st vs z row end command holds is found goes =
       along = subst (λ (q : Values). Along (λ w. Leads (way w)) st.scope.progress q.progress) (sym done.scope) (along_went (λ w. Leads (way w)) (λ w. w) way st.scope z z.progress values.went (λ w. refl) refl refl (λ left. refl));
     }
 
-pub fits_of : (schema : List Declaration) (e : RowEffect) → EffectFits schema (effect_of e) → FitsSchema schema e
-fits_of schema e fits = record { table = fits.table; declared = fits.declared; fits = record { key = fits.key; allowed = fits.allowed; writes = fits.writes; order = fits.order; act = fits.act } }
-
 -- changes of a run, as they are carried
 pub all_fit : (schema : List Declaration) (es : List RowEffect) → All (EffectFits schema) (map effect_of es) → AllFit schema es
 all_fit schema [] all = tt
-all_fit schema (e ∷ es) all = (fits_of schema e (All-head (EffectFits schema) (effect_of e) (map effect_of es) all), all_fit schema es (All-tail (EffectFits schema) (effect_of e) (map effect_of es) all))
+all_fit schema (e ∷ es) all = (All-head (EffectFits schema) (effect_of e) (map effect_of es) all, all_fit schema es (All-tail (EffectFits schema) (effect_of e) (map effect_of es) all))

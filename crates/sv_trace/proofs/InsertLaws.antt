@@ -26,14 +26,14 @@ use Rattle.sv_app.proofs.AcceptedLaws.{counter_is_int}
 use Rattle.sv_effect.specs.declared.ops.Write.{Write}
 use Rattle.sv_effect.specs.declared.ops.Write.TheVariants.{Delta, Set}
 use Rattle.sv_effect.specs.declared.outcomes.Outcome.TheVariants as outcomes
-use Rattle.sv_effect.specs.Fits.{KeyFits, WriteFits, IsWrite, AreWrites, AllAbove, Ascending, columns_written, is_written, is_key_column}
+use Rattle.sv_effect.specs.Fits.{EffectFits, KeyFits, WriteFits, IsWrite, AreWrites, AllAbove, Ascending, columns_written, is_written, is_key_column}
 use Rattle.sv_effect.specs.RowChange.{key_values}
 use Rattle.sv_effect.specs.Run.{Stand, Flow, Goes, Ends, with_scope, on_value, changed, row_with, inserted}
 use Rattle.sv_effect.specs.RunChanges.{Effect, key_in, with_writes, kept_to, insert_of, inserts, kept_values, stands}
 use Rattle.sv_effect.specs.RunValues.{nothing, Scope as Values, with_progress, put, narrow, Gives, then_value, val_of, column, values_of}
 use Rattle.sv_effect.specs.TablesOfCut.{number_in}
 use Rattle.sv_effect.proofs.TestLaws.{same_test}
-use Rattle.sv_trace.specs.Standing.{Frame, names_in, type_of_val, type_of_got, CommandIn, RowIs, RowAt, EffectFits, Holds, Along, Makes}
+use Rattle.sv_trace.specs.Standing.{Frame, names_in, type_of_val, type_of_got, CommandIn, RowIs, RowAt, Holds, Along, Makes}
 use Rattle.sv_trace.proofs.BlockLaws.{holds_with}
 use Rattle.sv_trace.proofs.ChangeLaws.{changes}
 use Rattle.sv_trace.proofs.SchemaLaws.{key_fits, zero_types}
@@ -167,7 +167,7 @@ module _ (d : Declaration) (vs : List Val) (kept : List Got) (grows : Bool) (int
               written_or (c == (c + suc j)) (is_written (c + suc j) ls) (ap (λ m. is_written m ls) n ∙ rest j (omega (arith, less)) (ap (is_key_column d.key) (sym n) ∙ outside))
 
 -- a value of the type that stands there
-val_at : (tys : List Ty) (vs : List Val) (c : ℕ) → map type_of_val vs ≡ tys → type_of_val (item nothing vs c) ≡ unwrap_or (slice_get tys c) types.Int
+pub val_at : (tys : List Ty) (vs : List Val) (c : ℕ) → map type_of_val vs ≡ tys → type_of_val (item nothing vs c) ≡ unwrap_or (slice_get tys c) types.Int
 val_at tys vs c e = by_slot (slice_get vs c) ∙ ap (λ o. unwrap_or o types.Int) (sym (slice_get-map type_of_val vs c) ∙ ap (λ l. slice_get l c) e)
   where
     by_slot : (o : Option Val) → type_of_val (unwrap_or o nothing) ≡ unwrap_or (option_map type_of_val o) types.Int
@@ -175,7 +175,7 @@ val_at tys vs c e = by_slot (slice_get vs c) ∙ ap (λ o. unwrap_or o types.Int
     by_slot (Some v) = refl
 
 -- an insert went on: no present row stands there
-went_in : (row : Option Row) (end : Stand) (go : Flow) → (if stands row then Ends outcomes.Exists else go) ≡ Goes end → go ≡ Goes end
+pub went_in : (row : Option Row) (end : Stand) (go : Flow) → (if stands row then Ends outcomes.Exists else go) ≡ Goes end → go ≡ Goes end
 went_in row end go is = by_row (stands row) is
   where
     by_row : (b : Bool) → (if b then Ends outcomes.Exists else go) ≡ Goes end → go ≡ Goes end
@@ -183,7 +183,7 @@ went_in row end go is = by_row (stands row) is
     by_row false e = e
 
 -- the values that an insert finds are of the columns' types
-kept_types : (schema : List Declaration) → AcceptedSchema schema → (p : Place) (d : Declaration) (row : Option Row) → slice_get schema p.table ≡ Some d → KeyFits d.columns d.key (key_values p.key) → RowAt schema p row
+pub kept_types : (schema : List Declaration) → AcceptedSchema schema → (p : Place) (d : Declaration) (row : Option Row) → slice_get schema p.table ≡ Some d → KeyFits d.columns d.key (key_values p.key) → RowAt schema p row
     → map type_of_got (kept_values d p.key row) ≡ map (λ (k : Column). k.ty) d.columns
 kept_types schema accepted p d None declared key found = zero_types schema accepted p.table d p.key declared key
 kept_types schema accepted p d (Some row) declared key found = found.types ∙ ap (λ (x : Declaration). map (λ (k : Column). k.ty) x.columns) (same_table schema p.table found.key.table d found.key.declared declared)
@@ -209,7 +209,7 @@ makes_insert f at t es st vs z d p row end command holds is declared place found
     let ran = on_value_goes (inserts d vs kept 0 d.columns z) (with_scope st z) go end (went_in row end (on_value (inserts d vs kept 0 d.columns z) (with_scope st z) go) goes) in
     let made = inserts_at d vs kept (is_grow_only d.kind) (λ c k at_column counts. counter_is_int f.schema accepted t.num c d k declared at_column counts) typed kept_typed_at refl 0 d.columns z ran.is ran.scope (from_start d) ran.gives in
     let e : Effect = record { place = p; act = acts.Insert; writes = ran.is; instance = ran.scope.progress.number } in
-    let fits : EffectFits f.schema e = record { table = d; declared = here; key = key; allowed = command.suits.1 d declared; writes = made.writes; order = made.order; act = all_written d ran.is made.whole } in
+    let fits : EffectFits f.schema e = record { table = d; declared = here; fits = record { key = key; allowed = command.suits.1 d declared; writes = made.writes; order = made.order; act = all_written d ran.is made.whole } } in
     let after : Row = row_with (with_writes ran.is kept) true in
     let row_fits : RowIs f.schema p after.values = record { key = record { table = d; declared = here; fits = key }; types = written_types d ran.is kept made.writes kept_typed } in
     let kept_at = where_kept (is_grow_only d.kind) (columns_way d 0 d.columns) in

@@ -29,10 +29,12 @@ use Rattle.sv_app.specs.TxnNames as txn_names
 use Rattle.sv_app.specs.TxnNumbers.{numbered_name, numbered_block, numbered_parameter, numbered_txn}
 use Rattle.sv_app.specs.TxnTyping.{block_faults, txn_faults}
 use Rattle.sv_app.specs.Typing.{repeats}
+use Rattle.sv_app.specs.Units.{block_loops, units, loop_variables, unit_of}
 use Rattle.sv_app.proofs.AcceptedLaws.{front_none, back_none, each_none}
+use Rattle.sv_effect.specs.Fits.{EffectFits}
 use Rattle.sv_effect.specs.Run.{Stand, argument, instance_of, started}
 use Rattle.sv_effect.specs.RunValues.{nothing}
-use Rattle.sv_trace.specs.Standing.{Frame, IsFrame, names_in, type_of_val, type_of_got, types_at, IsValue, IsRow, Means, BlockIn, Sees, RowIs, EffectFits, Holds, Passes}
+use Rattle.sv_trace.specs.Standing.{Frame, IsFrame, names_in, type_of_val, type_of_got, types_at, IsValue, IsRow, Means, BlockIn, Sees, RowIs, Holds, Passes}
 use Rattle.sv_trace.proofs.BodyLaws.{block_suits}
 use Rattle.sv_trace.proofs.DeclareLaws.{block_declares, block_lists, after, HereFrom, here_split, here_number, agree_same, block_stays}
 use Rattle.sv_trace.proofs.LoopLaws.{whole_shaped}
@@ -44,7 +46,7 @@ after_length : (k : ℕ) (ds : List Declared) → after k ds ≡ k + length ds
 after_length k [] = omega arith
 after_length k (d ∷ ds) = let e : after (suc k) ds ≡ suc k + length ds = after_length (suc k) ds in omega (arith, e)
 
-slice_left : {A : Type 0} (xs ys : List A) (n : ℕ) (x : A) → slice_get xs n ≡ Some x → slice_get (xs ++ ys) n ≡ Some x
+pub slice_left : {A : Type 0} (xs ys : List A) (n : ℕ) (x : A) → slice_get xs n ≡ Some x → slice_get (xs ++ ys) n ≡ Some x
 slice_left [] ys n x at = absurd cc
 slice_left (z ∷ xs) ys zero x at = at
 slice_left (z ∷ xs) ys (suc n) x at = slice_left xs ys n x at
@@ -106,28 +108,28 @@ module _ (f : Frame) (is : IsFrame f) where
   faultless : txn_faults f.schema f.txn ≡ []
   faultless = each_none (λ txn. txn_faults f.schema txn) f.txns f.number f.txn (back_none (repeats (map (λ (t : Transaction). t.name) f.txns)) _ is.accepted.typed) is.among
 
-  once : repeats (txn_names.names_of f.txn) ≡ []
+  pub once : repeats (txn_names.names_of f.txn) ≡ []
   once = front_none (repeats (txn_names.names_of f.txn)) (block_faults (opening f.schema f.txn.params) f.txn.body) faultless
 
-  right : block_faults (opening f.schema f.txn.params) f.txn.body ≡ []
+  pub right : block_faults (opening f.schema f.txn.params) f.txn.body ≡ []
   right = back_none (repeats (txn_names.names_of f.txn)) (block_faults (opening f.schema f.txn.params) f.txn.body) faultless
 
   itself : numbered_txn f.schema f.txns f.txn ≡ f.txn
   itself = same_at (numbered_txn f.schema f.txns) f.txns f.number f.txn is.accepted.names is.among
 
-  body_own : numbered_block (all f) f.txn.body ≡ f.txn.body
+  pub body_own : numbered_block (all f) f.txn.body ≡ f.txn.body
   body_own = ap (λ (t : Transaction). t.body) itself
 
   params_own : map (numbered_parameter (all f)) f.txn.params ≡ f.txn.params
   params_own = ap (λ (t : Transaction). t.params) itself
 
-  abbrev first : List Declared
+  abbrev pub first : List Declared
   first = map (λ (p : Ident × Ty). plain_name p.0) f.txn.params
 
   declares_are : declares f.txn ≡ first ++ block_declares f.txn.body
   declares_are = ap (λ ds. first ++ ds) (block_lists f.txn.body)
 
-  here : HereFrom f 0 first × HereFrom f (after 0 first) (block_declares f.txn.body)
+  pub here : HereFrom f 0 first × HereFrom f (after 0 first) (block_declares f.txn.body)
   here = here_split f 0 first (block_declares f.txn.body) (here_all f 0 (first ++ block_declares f.txn.body) (λ j. let e : j ≡ (0 + j) = omega arith in (λ i. slice_get (sym declares_are i) (e i))))
 
   abbrev begin : Names
@@ -152,7 +154,7 @@ module _ (f : Frame) (is : IsFrame f) where
         },
       )
 
-  known : AllKnown f (after 0 first) (reverse (map parameter f.txn.params))
+  pub known : AllKnown f (after 0 first) (reverse (map parameter f.txn.params))
   known = all_known f (after 0 first) (reverse (map parameter f.txn.params)) (each_reversed (KnownIs f (after 0 first)) parameter f.txn.params (each_at (λ p. KnownIs f (after 0 first) (parameter p)) f.txn.params (λ n p at. (param_at n p at).1)))
 
   pub body_in : BlockIn f (opening f.schema f.txn.params) f.txn.body
@@ -162,6 +164,10 @@ module _ (f : Frame) (is : IsFrame f) where
     suits = block_suits f is.accepted.tables once f.txn.body (reverse (map parameter f.txn.params)) begin (after 0 first) known body_own here.1 right agree
         (agree_same (after (after 0 first) (block_declares f.txn.body)) (names_in f)) (units_found f once (after 0 first) body_own here.1);
   }
+
+  -- each loop of the body is the unit of its number
+  pub loops_are_units : Each (λ l. slice_get (units f.txn.body) (unit_of (loop_variables f.txn.body) l.variable) ≡ Some l.body) (block_loops f.txn.body)
+  loops_are_units = units_found f once (after 0 first) body_own here.1
 
   opening_sees : Sees f (opening f.schema f.txn.params) (started f.args empty).scope
   opening_sees = record { values = values; rows = rows }

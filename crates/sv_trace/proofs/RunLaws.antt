@@ -20,11 +20,12 @@ use Rattle.sv_app.specs.Trees.{Term, Test, Command, Declare, Assign, Fetch, Choo
 use Rattle.sv_app.specs.TxnTyping.{behind}
 use Rattle.sv_app.specs.Units.{loop_variables, unit_of}
 use Rattle.sv_effect.specs.declared.outcomes.Outcome.TheVariants as outcomes
+use Rattle.sv_effect.specs.Fits.{EffectFits}
 use Rattle.sv_effect.specs.Run.{Setting, Stand, Flow, Goes, Ends, then_do, with_scope, on_truth, on_present, on_table, on_keys, only, with_row, with_value, place_of_row, fetched, inserted, updated, removed, meeting, present_keys, turns, begun, closed, instance, if_present, row_turn, item_turn, left_loop, items_of, run_command, run_block, body_of, run_body, run, started, result_of}
 use Rattle.sv_effect.specs.RunChanges.{key_in}
 use Rattle.sv_effect.specs.RunValues.{Evaluated, Leaves, Gives, values_of, truth_of}
 use Rattle.sv_trace.specs.Laws.{IsShapedRun, RunsAreShaped}
-use Rattle.sv_trace.specs.Standing.{Frame, IsFrame, BlockIn, CommandIn, EffectFits, Holds, Passes, Makes, Turned}
+use Rattle.sv_trace.specs.Standing.{Frame, IsFrame, BlockIn, CommandIn, Holds, Passes, Makes, Turned}
 use Rattle.sv_trace.proofs.BlockLaws.{first_in, rest_in, passes_finish, passes_then}
 use Rattle.sv_trace.proofs.ChangeLaws.{own_rows_fit, makes_remove}
 use Rattle.sv_trace.proofs.InsertLaws.{makes_insert}
@@ -35,21 +36,21 @@ use Rattle.sv_trace.proofs.UnitLaws.{Each}
 use Rattle.sv_trace.proofs.UpdateLaws.{makes_update}
 
 -- how a run went on
-record WentThrough (first : Flow) (go : Stand → Flow) (end : Stand) : Type 0 where
-  mid : Stand
-  first_is : first ≡ Goes mid
-  rest : go mid ≡ Goes end
+pub record WentThrough (first : Flow) (go : Stand → Flow) (end : Stand) : Type 0 where
+  pub mid : Stand
+  pub first_is : first ≡ Goes mid
+  pub rest : go mid ≡ Goes end
 
-goes_on : (first : Flow) (go : Stand → Flow) (end : Stand) → then_do first go ≡ Goes end → WentThrough first go end
+pub goes_on : (first : Flow) (go : Stand → Flow) (end : Stand) → then_do first go ≡ Goes end → WentThrough first go end
 goes_on (Goes st) go end is = record { mid = st; first_is = refl; rest = is }
 goes_on (Ends o) go end is = absurd cc
 
-record Present (o : Option Row) (go : Row → Flow) (end : Stand) : Type 0 where
-  row : Row
-  there : o ≡ Some row
-  rest : go row ≡ Goes end
+pub record Present (o : Option Row) (go : Row → Flow) (end : Stand) : Type 0 where
+  pub row : Row
+  pub there : o ≡ Some row
+  pub rest : go row ≡ Goes end
 
-present : (o : Option Row) (go : Row → Flow) (end : Stand) → on_present o go ≡ Goes end → Present o go end
+pub present : (o : Option Row) (go : Row → Flow) (end : Stand) → on_present o go ≡ Goes end → Present o go end
 present None go end is = absurd cc
 present (Some row) go end is = by_mark row.present is
   where
@@ -58,7 +59,7 @@ present (Some row) go end is = by_mark row.present is
     by_mark false e = absurd cc
 
 -- a block runs as it passes
-abbrev Run : (Stand → Flow) → Frame → Scope → Block → Type 0
+abbrev pub Run : (Stand → Flow) → Frame → Scope → Block → Type 0
 Run go f at b = (st end : Stand) → Holds f at st → go st ≡ Goes end → Passes f at b st end
 
 -- the turns of a loop, each of which is one
@@ -71,10 +72,10 @@ all_turned P f at (x ∷ xs) turn all one st end holds is =
     turned_more f at st went.mid end first (all_turned P f at xs turn all.1 one went.mid end first.holds went.rest)
 
 module _ (f : Frame) where
-  abbrev setting : Setting
+  abbrev pub setting : Setting
   setting = record { schema = f.schema; arguments = f.args; loops = loop_variables f.txn.body }
 
-  turn_of_row : (at : Scope) (r t : Ident) (test : Option Test) (body : Block) → CommandIn f at (ForRows r t test body) → Run (run_block setting body) f (knowing at r (RowOf t)) body → (k : Key) (st end : Stand) → Holds f at st
+  pub turn_of_row : (at : Scope) (r t : Ident) (test : Option Test) (body : Block) → CommandIn f at (ForRows r t test body) → Run (run_block setting body) f (knowing at r (RowOf t)) body → (k : Key) (st end : Stand) → Holds f at st
       → row_turn (unit_of (loop_variables f.txn.body) r.num) r.num t.num (run_block setting body) k st ≡ Goes end → Turned f at st end
   turn_of_row at r t test body command run k st end holds is = by_row (get st.tables p) refl is
     where
@@ -102,7 +103,7 @@ module _ (f : Frame) where
               let passes = run begin went.mid (row_begins f at r t test body u k row st command holds (own_rows_fit f at st p (Some row) holds found)) went.first_is in
               subst (Turned f at st) (same_stand (closed st.scope.progress went.mid) end went.rest) (row_turn_closes f at r t test body u row st went.mid command refl passes)
 
-  turn_of_item : (at : Scope) (x l : Ident) (body : Block) → CommandIn f at (ForEach x l body) → Run (run_block setting body) f (knowing at x Element) body → (v : Val) (st end : Stand) → HasType types.Int v → Holds f at st
+  pub turn_of_item : (at : Scope) (x l : Ident) (body : Block) → CommandIn f at (ForEach x l body) → Run (run_block setting body) f (knowing at x Element) body → (v : Val) (st end : Stand) → HasType types.Int v → Holds f at st
       → item_turn (unit_of (loop_variables f.txn.body) x.num) x.num (run_block setting body) v st ≡ Goes end → Turned f at st end
   turn_of_item at x l body command run v st end fits holds is =
       let u : ℕ = unit_of (loop_variables f.txn.body) x.num in
@@ -115,7 +116,7 @@ module _ (f : Frame) where
   all_keys [] = tt
   all_keys (k ∷ ks) = (tt, all_keys ks)
 
-  integers : (o : Option Arg) → Each (HasType types.Int) (items_of o)
+  pub integers : (o : Option Arg) → Each (HasType types.Int) (items_of o)
   integers None = tt
   integers (Some (args.Int n)) = tt
   integers (Some (args.Text t)) = tt
@@ -204,7 +205,7 @@ module _ (f : Frame) where
           makes_insert f at t es st ran.is ran.scope d p (get st.tables p) end command holds ran.gives declared refl (own_rows_fit f at st p (get st.tables p) holds refl) e
 
   mutual
-    of_command : (c : Command) (at : Scope) (st end : Stand) → CommandIn f at c → Holds f at st → run_command setting c st ≡ Goes end → Makes f at c st end
+    pub of_command : (c : Command) (at : Scope) (st end : Stand) → CommandIn f at c → Holds f at st → run_command setting c st ≡ Goes end → Makes f at c st end
     of_command (Declare x e) at st end command holds is = makes_declare f at x e setting st end command holds is
     of_command (Assign x e) at st end command holds is = makes_assign f at x e setting st end command holds is
     of_command (Fetch r t k) at st end command holds is = of_fetch at r t k st end command holds is
@@ -220,7 +221,7 @@ module _ (f : Frame) where
     of_command (Abort n) at st end command holds is = absurd cc
     of_command (Reply e) at st end command holds is = makes_reply f at e setting st end command holds is
 
-    of_block : (b : Block) (at : Scope) (st end : Stand) → BlockIn f at b → Holds f at st → run_block setting b st ≡ Goes end → Passes f at b st end
+    pub of_block : (b : Block) (at : Scope) (st end : Stand) → BlockIn f at b → Holds f at st → run_block setting b st ≡ Goes end → Passes f at b st end
     of_block Finish at st end block holds is = subst (Passes f at Finish st) (same_stand st end is) (passes_finish f at st holds)
     of_block (Then c b) at st end block holds is =
         let went = goes_on (run_command setting c st) (run_block setting b) end is in

@@ -136,7 +136,7 @@ makes_fetch f at r t k st vs z row command holds is found =
       along = along_went (λ w. Leads (way w)) (λ w. w) way st.scope z z.progress values.went (λ w. refl) refl refl (λ left. refl);
     }
 
-replied_goes : (v : Val) (st end : Stand) → replied v st ≡ Goes end → Goes (record st { replies = st.replies ++ v ∷ [] }) ≡ Goes end
+pub replied_goes : (v : Val) (st end : Stand) → replied v st ≡ Goes end → Goes (record st { replies = st.replies ++ v ∷ [] }) ≡ Goes end
 replied_goes v st end is = by_test (nat_lt (length st.replies) 16) is
   where
     by_test : (b : Bool) → (if b then Goes (record st { replies = st.replies ++ v ∷ [] }) else Ends outcomes.TooLarge) ≡ Goes end → Goes (record st { replies = st.replies ++ v ∷ [] }) ≡ Goes end

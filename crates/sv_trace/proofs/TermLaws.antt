@@ -72,7 +72,7 @@ pub old_after : (f : Frame) (at : Scope) (table : ℕ) (way : Way → Way) (s z 
 old_after f at table way s z old went = subst (λ (q : Values). OldIs f at table q.old) (sym went.alone) old
 
 -- a symbol more
-symbols_more : (tape : List Val) (v : Val) (ty : Ty) → type_of_val v ≡ ty → map type_of_val tape ++ ty ∷ [] ≡ map type_of_val (tape ++ v ∷ [])
+pub symbols_more : (tape : List Val) (v : Val) (ty : Ty) → type_of_val v ≡ ty → map type_of_val tape ++ ty ∷ [] ≡ map type_of_val (tape ++ v ∷ [])
 symbols_more tape v ty e = ap (λ t. map type_of_val tape ++ t ∷ []) (sym e) ∙ sym (map-append type_of_val tape (v ∷ []))
 
 pub went_put : (v : Val) (ty : Ty) (s : Values) → type_of_val v ≡ ty → Went (paths.put ty) s (with_progress s (put v s.progress))
@@ -287,7 +287,7 @@ both_tells f t q go s u y h k first second left =
 both_choices : (f : Frame) (t q : Test) (s u y : Values) (h k : Bool) (first : Tries f t s h u) (second : Tries f q u k y) → y.progress.choices ≡ s.progress.choices ++ (first.grown ++ second.grown)
 both_choices f t q s u y h k first second = second.choices ∙ ap (λ l. l ++ second.grown) first.choices ∙ append_assoc s.progress.choices first.grown second.grown
 
-both_alone : (s u y : Values) → u ≡ with_progress s u.progress → y ≡ with_progress u y.progress → y ≡ with_progress s y.progress
+pub both_alone : (s u y : Values) → u ≡ with_progress s u.progress → y ≡ with_progress u y.progress → y ≡ with_progress s y.progress
 both_alone s u y p q = q ∙ ap (λ x. with_progress x y.progress) p
 
 pub tries : (f : Frame) (at : Scope) (t : Test) (s : Values) (h : Bool) (z : Values) → at.updated ≡ None → Sees f at s → TestReads at t → truth_of t s ≡ Gives h z → Tries f t s h z

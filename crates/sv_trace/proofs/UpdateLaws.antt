@@ -9,7 +9,7 @@ use Rattle.sv_app.specs.declared.schemas.Merge.{Merge}
 use Rattle.sv_app.specs.declared.schemas.Merge.TheVariants as merges
 use Rattle.sv_app.specs.declared.schemas.Ty.TheVariants as types
 use Rattle.sv_app.specs.Accepted.{AcceptedSchema}
-use Rattle.sv_app.specs.Paths.{Way, Path, Leads, columns_at, column_type, type_in, type_of, term_way, terms_way, sets_way, now_way}
+use Rattle.sv_app.specs.Paths.{Way, Path, Leads, columns_at, column_type, type_in, type_of, term_way, terms_way, sets_way, now_way, forgetting}
 use Rattle.sv_app.specs.Paths as paths
 use Rattle.sv_app.specs.Schema.{Declaration}
 use Rattle.sv_app.specs.Scopes.{Scope}
@@ -18,13 +18,13 @@ use Rattle.sv_app.specs.Trees.{Term, Old, Update}
 use Rattle.sv_app.proofs.AcceptedLaws.{counter_is_int}
 use Rattle.sv_effect.specs.declared.ops.Write.{Write}
 use Rattle.sv_effect.specs.declared.ops.Write.TheVariants.{Delta, Set}
-use Rattle.sv_effect.specs.Fits.{WriteFits, KeyFits}
+use Rattle.sv_effect.specs.Fits.{EffectFits, WriteFits, KeyFits}
 use Rattle.sv_effect.specs.RowChange.{key_values}
-use Rattle.sv_effect.specs.Run.{Stand, Flow, Goes, with_scope, place_of_row, changed, row_with, updating, updated}
+use Rattle.sv_effect.specs.Run.{Stand, Flow, Goes, with_scope, place_of_row, changed, row_with, updating, update_over, updated}
 use Rattle.sv_effect.specs.RunChanges.{Effect, with_writes, step, delta_to, set_of, merge_in, merge_of, sets_made, in_order}
 use Rattle.sv_effect.specs.RunValues.{Scope as Values, narrow, Gives, then_value, read_old, value_of, values_of}
 use Rattle.sv_effect.specs.TablesOfCut.{number_in}
-use Rattle.sv_trace.specs.Standing.{Frame, names_in, type_of_val, type_of_got, CommandIn, SetsSuit, behind_set, Sees, RowIs, RowAt, EffectFits, Holds, Along, Makes}
+use Rattle.sv_trace.specs.Standing.{Frame, names_in, type_of_val, type_of_got, CommandIn, SetsSuit, behind_set, Sees, RowIs, RowAt, Holds, Along, Makes}
 use Rattle.sv_trace.proofs.ChangeLaws.{changes}
 use Rattle.sv_trace.proofs.StatementLaws.{on_value_goes, along_went, row_types}
 use Rattle.sv_trace.proofs.BlockLaws.{holds_with}
@@ -34,10 +34,6 @@ use Rattle.sv_trace.proofs.WriteLaws.{has_type, Suited, from_start, ordered_writ
 pub same_write : (w : Write) (o : Option ℤ) (s z : Values) → step o s ≡ Gives w z → (e : ℤ) × (w ≡ Delta e) × (s ≡ z)
 same_write w None s z is = absurd cc
 same_write w (Some e) s z is = (e, sym (same_value (Delta e) w s z is), same_scope (Delta e) w s z is)
-
-merges_same : (o : Option Column) → paths.merge_in o ≡ merge_in o
-merges_same None = refl
-merges_same (Some k) = refl
 
 -- a column that is merged as a number is an integer
 pub counter_type : (schema : List Declaration) (table : ℕ) (d : Declaration) (c : ℕ) → AcceptedSchema schema → slice_get schema table ≡ Some d → merge_of d.columns c ≡ merges.NumDelta → column_type schema table c ≡ types.Int
@@ -102,7 +98,7 @@ module _ (f : Frame) (at : Scope) (t : Ident) (d : Declaration) (accepted : Acce
       let second = set_step set.0 g.value g.scope h.value h.scope (merge_of d.columns c) sees_first old_first (first.type ∙ suit.1) refl h.first in
       let rest = sets_evaluate sets h.scope k.value k.scope (sees_after f (behind_set at t) now g.scope h.scope sees_first second.went) (old_after f (behind_set at t) t.num now g.scope h.scope old_first second.went) suit.2 k.first in
       let merged : merge_of d.columns c ≡ paths.merge_in (slice_get (columns_at (slice_get f.schema t.num)) c) =
-      sym (merges_same (slice_get d.columns c)) ∙ ap (λ o. paths.merge_in (slice_get (columns_at o) c)) (sym declared) in
+      ap (λ o. paths.merge_in (slice_get (columns_at o) c)) (sym declared) in
       let whole = went_then way (λ w. sets_way f.schema (names_in f) t.num sets (now w)) s g.scope k.scope first.went (went_then now (sets_way f.schema (names_in f) t.num sets) g.scope h.scope k.scope second.went rest.went) in
       record {
         suited = subst (Suited d.columns) (same_value ((c, h.value) ∷ k.value) ws k.scope z k.last) (second.fits, rest.suited);
@@ -126,7 +122,7 @@ makes_update f at t k sets st vs z d row end command holds is declared found goe
     let sees : Sees f (behind_set at t) begin = record { values = sees_z.values; rows = sees_z.rows } in
     let old : OldIs f (behind_set at t) t.num begin.old = λ inside. row_types f.schema p row.values found in
     let go : List (ℕ × Write) → Stand → Flow = λ ws y. let writes = in_order d 0 d.columns ws in
-    changed (record { place = p; act = acts.Update; writes = writes; instance = y.scope.progress.number }) (row_with (with_writes writes row.values) true) y in
+    changed (record { place = p; act = acts.Update; writes = writes; instance = y.scope.progress.number }) (row_with (with_writes writes row.values) true) (update_over y) in
     let ran = on_value_goes (sets_made d.columns sets begin) (with_scope st z) go end goes in
     let made = sets_evaluate f at t d command.frame.accepted.tables declared sets begin ran.is ran.scope sees old command.suits.2 ran.gives in
     let writes : List (ℕ × Write) = in_order d 0 d.columns ran.is in
@@ -135,21 +131,24 @@ makes_update f at t k sets st vs z d row end command holds is declared found goe
     let fits : EffectFits f.schema e = record {
       table = d;
       declared = declared;
-      key = subst (λ x. KeyFits x.columns x.key (key_values p.key)) same found.key.fits;
-      allowed = command.suits.1 d declared;
-      writes = are;
-      order = ordered d 0 d.columns ran.is (from_start d) made.suited;
-      act = tt;
+      fits = record {
+        key = subst (λ x. KeyFits x.columns x.key (key_values p.key)) same found.key.fits;
+        allowed = command.suits.1 d declared;
+        writes = are;
+        order = ordered d 0 d.columns ran.is (from_start d) made.suited;
+        act = tt;
+      };
     } in
     let typed : map type_of_got row.values ≡ map (λ (x : Column). x.ty) d.columns = found.types ∙ ap (λ (x : Declaration). map (λ (y : Column). y.ty) x.columns) same in
     let after : Row = row_with (with_writes writes row.values) true in
-    let row_fits : RowIs f.schema p after.values = record { key = record { table = d; declared = declared; fits = fits.key }; types = written_types d writes row.values are typed } in
+    let row_fits : RowIs f.schema p after.values = record { key = record { table = d; declared = declared; fits = fits.fits.key }; types = written_types d writes row.values are typed } in
     let sees_u = sees_after f (behind_set at t) (sets_way f.schema (names_in f) t.num sets) begin ran.scope sees made.went in
-    let held = holds_with f at at st ran.scope holds (record { values = sees_u.values; rows = sees_u.rows }) in
-    let done = changes f at e after (with_scope st ran.scope) end held fits row_fits ran.goes in
-    let to : Way → Path = λ w. Leads (sets_way f.schema (names_in f) t.num sets (record (way w) { known_old = [] })) in
+    let last : Values = (update_over (with_scope st ran.scope)).scope in
+    let held = holds_with f at at st last holds (record { values = sees_u.values; rows = sees_u.rows }) in
+    let done = changes f at e after (with_scope st last) end held fits row_fits ran.goes in
+    let to : Way → Path = λ w. Leads (forgetting (sets_way f.schema (names_in f) t.num sets (forgetting (way w)))) in
     record {
       holds = done.holds;
       along = subst (λ (q : Values). Along to st.scope.progress q.progress) (sym done.scope)
-          (along_went to (λ w. sets_way f.schema (names_in f) t.num sets (record w { known_old = [] })) way st.scope z ran.scope.progress keys.went (λ w. refl) made.went.unit made.went.choices made.went.ways);
+          (along_went to (λ w. forgetting (sets_way f.schema (names_in f) t.num sets (forgetting w))) way st.scope z last.progress keys.went (λ w. refl) made.went.unit made.went.choices (λ left. ap forgetting (made.went.ways left)));
     }

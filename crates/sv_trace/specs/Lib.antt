@@ -1,2 +1,4 @@
+pub mod Entries
 pub mod Laws
+pub mod Places
 pub mod Standing

@@ -61,11 +61,9 @@ use Rattle.sv_app.specs.Trees.{
 }
 use Rattle.sv_app.specs.TxnTyping.{behind}
 use Rattle.sv_app.specs.Units.{units, loop_variables, unit_of}
-use Rattle.sv_effect.specs.Fits.{KeyFits, AreWrites, Ascending, columns_written, ActFits}
-use Rattle.sv_effect.specs.RowChange.{key_values}
+use Rattle.sv_effect.specs.Fits.{EffectFits}
 use Rattle.sv_effect.specs.RowsFit.{KeyIsOf}
 use Rattle.sv_effect.specs.Run.{Stand}
-use Rattle.sv_effect.specs.RunChanges.{Effect}
 use Rattle.sv_effect.specs.RunValues.{nothing, Progress, Scope as Values}
 
 -- a transaction of an application, and arguments
@@ -135,7 +133,7 @@ TestReads at (Both t q) = TestReads at t × TestReads at q
 TestReads at (Either t q) = TestReads at t × TestReads at q
 
 abbrev pub Allows : List Declaration → Ident → Act → Type 0
-Allows schema table act = (d : Declaration) → slice_get schema table.num ≡ Some d → allows d.kind act ≡ true
+Allows schema table act = (d : Declaration) → slice_get schema table.num ≡ Some d → allows d act ≡ true
 
 -- the values of an insert are of the columns' types
 abbrev pub AreOfColumns : Frame → Ident → List Term → Type 0
@@ -163,7 +161,7 @@ IsUnit f x body = slice_get (units f.txn.body) (unit_of (loop_variables f.txn.bo
 abbrev mutual
   pub Suits : Frame → Scope → Command → Type 0
   Suits f at (Declare x e) = Reads at e × TypeIs f x (type_of f.schema (names_in f) 0 e)
-  Suits f at (Assign x e) = Reads at e × TypeIs f x (type_of f.schema (names_in f) 0 e)
+  Suits f at (Assign x e) = Reads at e × TypeIs f x (type_of f.schema (names_in f) 0 e) × Means IsValue at.known x.num
   Suits f at (Fetch r t k) = AllRead at k × TableIs f r t
   Suits f at (Choose test ys ns) = TestReads at test × BlockSuits f at ys × BlockSuits f at ns
   Suits f at (ForRows r t test body) = TableIs f r t × IsUnit f r body × BlockSuits f (knowing at r (RowOf t)) body
@@ -203,16 +201,6 @@ pub record RowIs (schema : List Declaration) (place : Place) (values : List Got)
 abbrev pub RowAt : List Declaration → Place → Option Row → Type 0
 RowAt schema place None = Unit {0}
 RowAt schema place (Some row) = RowIs schema place row.values
-
--- a change fits the schema
-pub record EffectFits (schema : List Declaration) (e : Effect) : Type 0 where
-  pub table : Declaration
-  pub declared : slice_get schema e.place.table ≡ Some table
-  pub key : KeyFits table.columns table.key (key_values e.place.key)
-  pub allowed : allows table.kind e.act ≡ true
-  pub writes : AreWrites table e.writes
-  pub order : Ascending (columns_written e.writes)
-  pub act : ActFits table e.act e.writes
 
 -- what holds wherever the run stands
 pub record Holds (f : Frame) (at : Scope) (st : Stand) : Type 0 where

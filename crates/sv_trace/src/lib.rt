@@ -3,4 +3,4 @@
 
 mod laws;
 
-pub use laws::runs_are_shaped;
+pub use laws::{changes_have_entries, runs_are_shaped, runs_make_their_tables};

@@ -3,10 +3,13 @@ ghost use Rattle.std.specs.Prelude.{◌≡◌, All, OnOk, slice_get};
 ghost use Rattle.std.specs.Option.{option_map};
 ghost use Rattle.sv_app.specs.Fitting.{ArgFits, ArgsFit, HasType};
 ghost use Rattle.sv_app.specs.Schema.{declaration_of, schema_of};
+ghost use Rattle.sv_app.specs.Slots.{item};
 ghost use Rattle.sv_app.specs.Trees.{transaction_of, transactions_of};
 ghost use Rattle.sv_effect.specs.Fits.{KeyFits};
 ghost use Rattle.sv_effect.specs.Initial.{ValuesFit, InitFits, AreDistinct};
 ghost use Rattle.sv_effect.specs.RowChange.{key_values};
+ghost use Rattle.sv_effect.specs.RunChanges.{key_in};
+ghost use Rattle.sv_effect.specs.RunValues.{nothing};
 ghost use Rattle.sv_effect.specs.TablesOfCut.{init_place};
 ghost use Rattle.sv_trials.specs.Requests.{IsRequestOf};
 
@@ -79,6 +82,45 @@ fn table_at(tables: &[Table], number: u16) -> Option<&Table>
     tables.get(number as usize)
 }
 
+fn value_of(values: &[Val], column: &Ident) -> Val
+    ensures { result ≡ item nothing values.now column.now.num }
+{
+    match values.get(column.num as usize) {
+        Some(value) => *value,
+        None => Val::Int(0),
+    }
+}
+
+/// The key that a row's values show.
+fn key_shown(names: &[Ident], values: &[Val]) -> Key
+    ensures { result ≡ key_in names.now values.now }
+{
+    match names {
+        [] => Key {
+            first: Val::Int(0),
+            second: None,
+        },
+        [first] => Key {
+            first: value_of(values, first),
+            second: None,
+        },
+        [first, second, ..] => Key {
+            first: value_of(values, first),
+            second: Some(value_of(values, second)),
+        },
+    }
+}
+
+fn check_shown(names: &[Ident], values: &[Val], key: &Key) -> Result<(), Trouble>
+    ensures { OnOk result (key.now ≡ key_in names.now values.now) }
+{
+    if *key == key_shown(names, values) {
+        Ok(())
+    } else {
+        Err(Trouble::Wrong("a key that the values don't show"))
+    }
+}
+
 #[tactic(auto, using(crate::proofs::FitLaws::row_fits))]
 fn check_row(tables: &[Table], row: &InitRow) -> Result<(), Trouble>
     ensures { OnOk result (InitFits (schema_of tables.now) row.now) }
@@ -87,6 +129,7 @@ fn check_row(tables: &[Table], row: &InitRow) -> Result<(), Trouble>
         return Err(Trouble::Wrong("no such table"));
     };
     check_whole_key(&table.columns, &table.key, &row.key)?;
+    check_shown(&table.key, row.values.items(), &row.key)?;
     check_values(&table.columns, row.values.items())
 }
 

@@ -1,7 +1,7 @@
 ghost use Rattle.std.specs.Prelude.{◌≡◌, map};
 ghost use Rattle.std.specs.List.{flat_map};
 ghost use Rattle.std.specs.Option.{option_map, is_none};
-ghost use Rattle.sv_app.specs.Kinds.{allows};
+ghost use Rattle.sv_app.specs.Kinds.{kind_allows};
 ghost use Rattle.sv_app.specs.Lookups.{column_of as column_meant, table_of as table_meant};
 ghost use Rattle.sv_app.specs.Schema.{declaration_of, schema_of};
 ghost use Rattle.sv_app.specs.Scopes.{updating};
@@ -38,13 +38,24 @@ pub fn note_no_table(first: &mut First, tables: &[Table], name: &Ident)
 }
 
 fn allows(kind: Kind, act: Act) -> bool
-    ensures { result ≡ allows kind act }
+    ensures { result ≡ kind_allows kind act }
 {
     match kind {
-        Kind::Plain | Kind::Arset => true,
-        Kind::Aoset => matches!(act, Act::Insert),
-        Kind::Uoset => matches!(act, Act::Update),
-        Kind::Auset => matches!(act, Act::Insert | Act::Update),
+        Kind::Plain | Kind::Arset => match act {
+            Act::Insert | Act::Update | Act::Remove => true,
+        },
+        Kind::Aoset => match act {
+            Act::Insert => true,
+            Act::Update | Act::Remove => false,
+        },
+        Kind::Uoset => match act {
+            Act::Update => true,
+            Act::Insert | Act::Remove => false,
+        },
+        Kind::Auset => match act {
+            Act::Insert | Act::Update => true,
+            Act::Remove => false,
+        },
     }
 }
 

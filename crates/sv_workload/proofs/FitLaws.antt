@@ -129,6 +129,7 @@ module _ (schema : List Declaration) (accepted : AcceptedSchema schema) where
         declared = at;
         key = subst (λ found. KeyFits t.columns t.key (key_values (key_of found r))) (sym e) (key_fits (table_number schema r.table) t r.values at fits);
         values = fits;
+        keyed = ap (λ found. key_of found r) e;
       }
 
 -- rows of which none is refused

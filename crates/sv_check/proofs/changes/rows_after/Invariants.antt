@@ -2,7 +2,7 @@ use Rattle.std.proofs.Common.{◌≡◌, List, length, drop, map}
 use Rattle.sv_app.specs.Schema.{Declaration, schema_of}
 use Rattle.sv_effect.specs.Follows.{Follows}
 use Rattle.sv_effect.specs.RunChanges.{effect_of}
-use Rattle.sv_effect.specs.Safe.{with_effects}
+use Rattle.sv_effect.specs.Effects.{with_effects}
 use Rattle.sv_check.specs.Bounds.{ChangesBounded}
 use Rattle.sv_check.specs.Left.{over}
 use Rattle.sv_check.proofs.changes.rows_after.Given as goal

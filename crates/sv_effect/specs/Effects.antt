@@ -1,12 +1,12 @@
--- Changes that fit bare tables: made in order, each write winning, they leave valid tables.
-use Rattle.std.specs.Prelude.{◌≢◌, List, [], ◌∷◌, Option, Some, None, map, unwrap_or, IsSome}
+-- What the changes of a run make of bare tables, in order, each write winning; they fit if the tables that they leave are valid.
+use Rattle.std.specs.Prelude.{List, [], ◌∷◌, Option, Some, None, map, unwrap_or}
 use Rattle.std.specs.FinMap.{get, insert}
-use Rattle.sv_app.specs.declared.acts.Act.TheVariants.{Insert}
 use Rattle.sv_app.specs.declared.gots.Got.{Got}
 use Rattle.sv_app.specs.declared.places.Place.{Place}
 use Rattle.sv_app.specs.Schema.{Declaration}
 use Rattle.sv_app.specs.Tables.{Row, Tables}
 use Rattle.sv_app.specs.Valid.{Valid}
+use Rattle.sv_effect.specs.Acts.{IsFound}
 use Rattle.sv_effect.specs.Applied.{zeros_in}
 use Rattle.sv_effect.specs.RowChange.{turn_of}
 use Rattle.sv_effect.specs.Run.{row_with}
@@ -35,4 +35,4 @@ Fits schema es t = Valid schema (with_effects schema es t)
 -- each row that is updated or removed is kept, or an earlier change inserts it
 abbrev pub FindsAll : List Declaration → List Effect → Tables → Type 0
 FindsAll schema [] t = Unit {0}
-FindsAll schema (e ∷ es) t = (e.act ≢ Insert → IsSome (get t e.place)) × FindsAll schema es (with_effect schema e t)
+FindsAll schema (e ∷ es) t = IsFound e.act (get t e.place) × FindsAll schema es (with_effect schema e t)
