@@ -13,6 +13,18 @@ use std::snapshot::Snapshot;
 use std::sync::Wait;
 use sv_value::NoMemory;
 
+/// The word that says whether the turn is held.
+const TURN: usize = 0;
+
+/// The turn is free.
+const FREE: u64 = 0;
+
+/// A thread holds the turn.
+const HELD: u64 = 1;
+
+/// The slot of the value.
+const VALUE: usize = 0;
+
 /// Keeps one value, which threads take in turn. Contracts see its name.
 #[derive(Drop)]
 pub struct Hub<V: History> {
@@ -31,7 +43,7 @@ impl<V: History> Model for Hub<V> {
 }
 
 impl<V: History> Hub<V> {
-    /// A hub of the value, and a pass that has seen its whole past.
+    /// A hub of the value, and a pass that has seen its whole past. Without memory the value is dropped.
     pub fn new(alloc: Global, value: V) -> Result<(Hub<V>, Pass<V>), NoMemory>
         ensures name { IfOk result (λ made. made.0.name ≡ V.name value) }
         ensures own { IfOk result (λ made. Belongs made.0 made.1) }
@@ -39,7 +51,7 @@ impl<V: History> Hub<V> {
     {
         let start = Snapshot::of(&value);
         let slots = one_slot(alloc, value)?;
-        match Table::new(alloc, &[0], slots, &start) {
+        match Table::new(alloc, &[FREE], slots, &start) {
             Ok((table, seat)) => Ok((Hub { table }, Pass { seat })),
             Err(Refused { slots: _ }) => Err(NoMemory),
         }
@@ -56,10 +68,10 @@ impl<V: History> Hub<V> {
     {
         let Pass { mut seat } = pass;
         let shared = &self.table.shared;
-        if shared.compare_exchange::<Take<V>>(&mut seat, 0, 0, 1) != 0 {
+        if shared.compare_exchange::<Take<V>>(&mut seat, TURN, FREE, HELD) != FREE {
             return Err(Pass { seat });
         }
-        let Some(value) = shared.exchange(&mut seat, 0, None) else {
+        let Some(value) = shared.exchange(&mut seat, VALUE, None) else {
             unreachable!()
         };
         Ok(Turn { value, seat })
@@ -79,7 +91,7 @@ impl<V: History> Hub<V> {
                 Ok(turn) => return turn,
                 Err(back) => waiting = back,
             }
-            self.table.shared.park(rt, 0, 1);
+            self.table.shared.park(rt, TURN, HELD as u32);
         }
         unreachable!()
     }
@@ -94,9 +106,9 @@ impl<V: History> Hub<V> {
     {
         let Turn { value, mut seat } = turn;
         let shared = &self.table.shared;
-        let _empty = shared.exchange(&mut seat, 0, Some(value));
-        shared.store::<Give<V>>(&mut seat, 0, 0);
-        shared.wake_one(0);
+        let _empty = shared.exchange(&mut seat, VALUE, Some(value));
+        shared.store::<Give<V>>(&mut seat, TURN, FREE);
+        shared.wake_one(TURN);
         Pass { seat }
     }
 
@@ -121,7 +133,7 @@ impl<V: History> Hub<V> {
         let Pass { seat: spent } = other;
         let shared = &self.table.shared;
         shared.join_seat::<Both>(&mut seat, spent);
-        shared.load::<Look>(&mut seat, 0);
+        shared.load::<Look>(&mut seat, TURN);
         Pass { seat }
     }
 }

@@ -13,5 +13,5 @@ compare_exchange-requires g c =
 pub exchange-requires : goal.exchange-requires
 exchange-requires g c =
     let own = own_inside c.self.inside.table.shared.table_id (g.V.History.name c.self.inside.table.shared.key.value) c.pass.inside.seat.table_id c.pass.inside.seat.me.0 c.self.view_is c.pass.view_is c.requires in
-    let took = c.compare_exchange.ensures.2.0 (omega (arith, c.if-compare_exchange-ne0.false)) in
+    let took = c.compare_exchange.ensures.2.0 (omega (arith, c.if-compare_exchange-ne-FREE.false)) in
     (c.compare_exchange.ensures.0 ∙ own.0, (Some took.value, took.slot ∙ ap (λ (l : List (ℕ × Option g.row.V.Denot)). (0, Some took.value) ∷ l) (sym (ap rest took.slot))))
