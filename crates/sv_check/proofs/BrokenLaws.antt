@@ -16,6 +16,7 @@ use Rattle.sv_app.specs.Tables.{Row, Tables}
 use Rattle.sv_app.specs.Valid.{value_of, key_by, place_at, Meets, IsListed, IsPresent, Binds, Holds, IsInvariant}
 use Rattle.sv_app.proofs.PlaceLaws.{place_total}
 use Rattle.sv_effect.specs.Agrees.{seen_in, seen_at, is_present}
+use Rattle.sv_effect.specs.Faces.{Face}
 use Rattle.sv_effect.specs.Follows.{Follows}
 use Rattle.sv_effect.specs.Reads.{SeenValue, ReadValue}
 use Rattle.sv_effect.specs.TablesOfCut.{is_place}
@@ -65,19 +66,19 @@ binds_none tables n present le = subst (λ o. Says false (Binds o present)) (sym
 pub ruleset binding = (binds_at, binds_none)
 
 -- whether a row stands after the changes
-pub stands_left : (o n : Option Tables) (a b : Option (List ReadValue)) (left : List (Place × LeftRow)) (place : Place) (row : LeftRow) (found : Option Row) (sure : Bool) → n ≡ o → b ≡ a
+pub stands_left : (o n : Face) (a b : Option (List ReadValue)) (left : List (Place × LeftRow)) (place : Place) (row : LeftRow) (found : Option Row) (sure : Bool) → n ≡ o → b ≡ a
     → ((t : Tables) → get (over left t) place ≡ hides found (get t place)) → found ≡ Some (left_row row)
     → Follows o n a b (λ t. (sure ≡ true → is_present t place.table place.key ≡ true) → is_present (over left t) place.table place.key ≡ row.present)
 stands_left o n a b left place row found sure same stands at is =
     quiet o n a b _ same stands (λ t known. ap (λ o. (seen_in o).present) (at t ∙ ap (λ f. hides f (get t place)) is))
 
-pub stands_surely : (o n : Option Tables) (a b : Option (List ReadValue)) (left : List (Place × LeftRow)) (place : Place) (found : Option Row) (sure : Bool) → n ≡ o → b ≡ a
+pub stands_surely : (o n : Face) (a b : Option (List ReadValue)) (left : List (Place × LeftRow)) (place : Place) (found : Option Row) (sure : Bool) → n ≡ o → b ≡ a
     → ((t : Tables) → get (over left t) place ≡ hides found (get t place)) → found ≡ None → sure ≡ true
     → Follows o n a b (λ t. (sure ≡ true → is_present t place.table place.key ≡ true) → is_present (over left t) place.table place.key ≡ true)
 stands_surely o n a b left place found sure same stands at is so_sure =
     quiet o n a b _ same stands (λ t known. ap (λ o. (seen_in o).present) (at t ∙ ap (λ f. hides f (get t place)) is) ∙ known so_sure)
 
-pub stands_asked : (o n : Option Tables) (a b : Option (List ReadValue)) (left : List (Place × LeftRow)) (place : Place) (found : Option Row) (sure : Bool) (seen : SeenValue)
+pub stands_asked : (o n : Face) (a b : Option (List ReadValue)) (left : List (Place × LeftRow)) (place : Place) (found : Option Row) (sure : Bool) (seen : SeenValue)
     → Follows o n a b (λ t. seen_at t (place_at place.table place.key) ≡ seen) → ((t : Tables) → get (over left t) place ≡ hides found (get t place)) → found ≡ None
     → Follows o n a b (λ t. (sure ≡ true → is_present t place.table place.key ≡ true) → is_present (over left t) place.table place.key ≡ seen.present)
 stands_asked o n a b left place found sure seen f at is =
@@ -86,7 +87,7 @@ stands_asked o n a b left place found sure seen f at is =
 pub ruleset standing = (stands_left, stands_surely, stands_asked)
 
 -- a rule of one row
-pub says_met : (o n : Option Tables) (a b : Option (List ReadValue)) (schema : List Declaration) (left : List (Place × LeftRow)) (place : Place) (row : LeftRow) (body : InvBody) (check : Check) (passes : Bool)
+pub says_met : (o n : Face) (a b : Option (List ReadValue)) (schema : List Declaration) (left : List (Place × LeftRow)) (place : Place) (row : LeftRow) (body : InvBody) (check : Check) (passes : Bool)
     → n ≡ o → b ≡ a → body ≡ bodies.Check check → passes ≡ is_met (left_row row) check → Follows o n a b (RowSays schema left place (left_row row) (rule_of body) (not passes))
 says_met o n a b schema left place row body check passes same stands is e =
     quiet o n a b _ same stands (λ t after at. subst (λ x. Says (not passes) (Holds schema (over left t) place.table (rule_of x) place.key (left_row row) → ⊥)) (sym is) (split passes (sym e)))
@@ -95,7 +96,7 @@ says_met o n a b schema left place row body check passes same stands is e =
     split true h = λ broken. broken (meets (left_row row) check h)
     split false h = λ holds. clash (is_met (left_row row) check) (met (left_row row) check holds) h
 
-pub says_listed : (o n : Option Tables) (a b : Option (List ReadValue)) (schema : List Declaration) (left : List (Place × LeftRow)) (place : Place) (row : LeftRow) (body : InvBody) (column : Ident) (texts : _) (got : Got) (passes : Bool)
+pub says_listed : (o n : Face) (a b : Option (List ReadValue)) (schema : List Declaration) (left : List (Place × LeftRow)) (place : Place) (row : LeftRow) (body : InvBody) (column : Ident) (texts : _) (got : Got) (passes : Bool)
     → n ≡ o → b ≡ a → body ≡ bodies.List column texts → got ≡ value_of (left_row row) column → passes ≡ is_listed got texts.items → Follows o n a b (RowSays schema left place (left_row row) (rule_of body) (not passes))
 says_listed o n a b schema left place row body column texts got passes same stands is value e =
     quiet o n a b _ same stands (λ t after at. subst (λ x. Says (not passes) (Holds schema (over left t) place.table (rule_of x) place.key (left_row row) → ⊥)) (sym is)
@@ -106,7 +107,7 @@ says_listed o n a b schema left place row body column texts got passes same stan
     split false h = λ holds. clash (is_listed (value_of (left_row row) column) texts.items) (in_list (value_of (left_row row) column) texts.items holds) h
 
 -- a reference that doesn't bind the row
-pub says_unbound : (o n : Option Tables) (a b : Option (List ReadValue)) (schema : List Declaration) (left : List (Place × LeftRow)) (place : Place) (row : LeftRow) (body : InvBody) (column parent target : Ident) (bound : Bool)
+pub says_unbound : (o n : Face) (a b : Option (List ReadValue)) (schema : List Declaration) (left : List (Place × LeftRow)) (place : Place) (row : LeftRow) (body : InvBody) (column parent target : Ident) (bound : Bool)
     → n ≡ o → b ≡ a → body ≡ bodies.Refers column parent target → Says bound (Binds (slice_get schema parent.num) row.present) → bound ≡ false
     → Follows o n a b (RowSays schema left place (left_row row) (rule_of body) false)
 says_unbound o n a b schema left place row body column parent target bound same stands is binds e =
@@ -114,7 +115,7 @@ says_unbound o n a b schema left place row body column parent target bound same 
     (λ broken. broken (λ h. absurd (subst (λ r. Says r (Binds (slice_get schema parent.num) row.present)) e binds h))))
 
 -- one that does
-pub says_referring : (o n : Option Tables) (a b : Option (List ReadValue)) (schema : List Declaration) (left : List (Place × LeftRow)) (place to : Place) (row : LeftRow) (inv : Inv) (column parent target : Ident)
+pub says_referring : (o n : Face) (a b : Option (List ReadValue)) (schema : List Declaration) (left : List (Place × LeftRow)) (place to : Place) (row : LeftRow) (inv : Inv) (column parent target : Ident)
     (got : Got) (bound found here : Bool) → IsInvariant schema place.table (invariant_of inv) → inv.body ≡ bodies.Refers column parent target
     → Says bound (Binds (slice_get schema parent.num) row.present) → bound ≡ true → here ≡ is_left place left → got ≡ value_of (left_row row) column → to ≡ place_at parent.num (key_by got)
     → Follows o n a b (λ t. (not here ≡ true → is_present t to.table to.key ≡ true) → is_present (over left t) to.table to.key ≡ found)
@@ -154,7 +155,7 @@ says_referring o n a b schema left place to row inv column parent target got bou
 pub ruleset saying = (says_met, says_listed, says_unbound, says_referring)
 
 -- the row was looked at, and judged
-pub row_judged : (o m n : Option Tables) (a b c : Option (List ReadValue)) (schema : List Declaration) (left : List (Place × LeftRow)) (place : Place) (found : Option LeftRow) (row : LeftRow) (rule : Rule) (broken : Bool)
+pub row_judged : (o m n : Face) (a b c : Option (List ReadValue)) (schema : List Declaration) (left : List (Place × LeftRow)) (place : Place) (found : Option LeftRow) (row : LeftRow) (rule : Rule) (broken : Bool)
     → Follows o m a b (λ t. get (over left t) place ≡ left_rows found) → found ≡ Some row → Follows m n b c (RowSays schema left place (left_row row) rule broken)
     → Follows o n a c (PlaceSays schema left place rule broken)
 row_judged o m n a b c schema left place found row rule broken f is g =
@@ -170,7 +171,7 @@ row_judged o m n a b c schema left place found row rule broken f is g =
         same_some' : (x y : Row) → Some x ≡ Some y → x ≡ y
         same_some' x y e = cc
 
-pub no_row : (o n : Option Tables) (a b : Option (List ReadValue)) (schema : List Declaration) (left : List (Place × LeftRow)) (place : Place) (found : Option LeftRow) (rule : Rule)
+pub no_row : (o n : Face) (a b : Option (List ReadValue)) (schema : List Declaration) (left : List (Place × LeftRow)) (place : Place) (found : Option LeftRow) (rule : Rule)
     → Follows o n a b (λ t. get (over left t) place ≡ left_rows found) → found ≡ None → Follows o n a b (PlaceSays schema left place rule false)
 no_row o n a b schema left place found rule f is =
     so o n a b _ _ f (λ t looked after at_key. none_there at_key.row (sym (looked ∙ ap left_rows is) ∙ at_key.kept))

@@ -15,6 +15,7 @@ use Rattle.sv_app.specs.declared.gots.Got.TheVariants.{Num, Text}
 use Rattle.sv_app.specs.declared.places.Place.{Place}
 use Rattle.sv_app.specs.Tables.{Row, Tables}
 use Rattle.sv_app.specs.Valid.{value_of, place_at}
+use Rattle.sv_effect.specs.Faces.{Face}
 use Rattle.sv_effect.specs.Follows.{Follows}
 use Rattle.sv_effect.specs.Agrees.{seen_at}
 use Rattle.sv_effect.specs.Reads.{SeenValue, ReadValue}
@@ -30,14 +31,14 @@ use Rattle.sv_check.proofs.SetLaws.{flat_more}
 -- ---- the value at a place
 
 -- a change left the row
-pub value_left : (o n : Option Tables) (a b : Option (List ReadValue)) (left : List (Place × LeftRow)) (place : Place) (column : Ident) (row : Row) (found : Option Row) (value : Option Got) → n ≡ o → b ≡ a
+pub value_left : (o n : Face) (a b : Option (List ReadValue)) (left : List (Place × LeftRow)) (place : Place) (column : Ident) (row : Row) (found : Option Row) (value : Option Got) → n ≡ o → b ≡ a
     → ((t : Tables) → get (over left t) place ≡ hides found (get t place)) → found ≡ Some row → value ≡ present_value column (Some row)
     → Follows o n a b (λ t. value ≡ present_value column (get (over left t) place))
 value_left o n a b left place column row found value same stands at is gives =
     quiet o n a b _ same stands (λ t. gives ∙ ap (present_value column) (sym (at t ∙ ap (λ f. hides f (get t place)) is)))
 
 -- the row before is asked for
-pub value_behind : (o n : Option Tables) (a b : Option (List ReadValue)) (left : List (Place × LeftRow)) (place : Place) (column : Ident) (found : Option Row) (seen : SeenValue) (value : Option Got)
+pub value_behind : (o n : Face) (a b : Option (List ReadValue)) (left : List (Place × LeftRow)) (place : Place) (column : Ident) (found : Option Row) (seen : SeenValue) (value : Option Got)
     → Follows o n a b (λ t. seen_at t (place_at place.table place.key) ≡ seen) → ((t : Tables) → get (over left t) place ≡ hides found (get t place)) → found ≡ None
     → value ≡ present_value column (told_row seen) → Follows o n a b (λ t. value ≡ present_value column (get (over left t) place))
 value_behind o n a b left place column found seen value f at is gives =
@@ -55,11 +56,11 @@ pair_present column key (Some row) = by row.present
     by true = refl
     by false = refl
 
-pub none_paired : (o n : Option Tables) (a b : Option (List ReadValue)) (left : List (Place × LeftRow)) (table : ℕ) (column : Ident) (keys : List Key) (pairs : List Pair) → n ≡ o → b ≡ a → pairs ≡ []
+pub none_paired : (o n : Face) (a b : Option (List ReadValue)) (left : List (Place × LeftRow)) (table : ℕ) (column : Ident) (keys : List Key) (pairs : List Pair) → n ≡ o → b ≡ a → pairs ≡ []
     → Follows o n a b (λ t. pairs ≡ values_at (over left t) table column (take 0 keys))
 none_paired o n a b left table column keys pairs same stands is = quiet o n a b _ same stands (λ t. is)
 
-pub one_paired : (o m n : Option Tables) (a b c : Option (List ReadValue)) (left : List (Place × LeftRow)) (table : ℕ) (column : Ident) (keys : List Key) (i : ℕ) (key : Key) (value : Option Got) (old new : List Pair)
+pub one_paired : (o m n : Face) (a b c : Option (List ReadValue)) (left : List (Place × LeftRow)) (table : ℕ) (column : Ident) (keys : List Key) (i : ℕ) (key : Key) (value : Option Got) (old new : List Pair)
     → i < length keys → key ≡ get_or keys i key
     → Follows o m a b (λ t. old ≡ values_at (over left t) table column (take i keys)) → Follows m n b c (λ t. value ≡ present_value column (get (over left t) (place_at table key)))
     → new ≡ old ++ pair_of key value → Follows o n a c (λ t. new ≡ values_at (over left t) table column (take (i + 1) keys))
@@ -70,7 +71,7 @@ one_paired o m n a b c left table column keys i key value old new less is f g mo
     ∙ ap (λ k. values_at (over left t) table column (take i keys) ++ values_of column k (get (over left t) (place_at table k))) is
     ∙ flat_more (λ k. values_of column k (get (over left t) (place_at table k))) keys i key less)
 
-pub all_paired : (o n : Option Tables) (a b : Option (List ReadValue)) (left : List (Place × LeftRow)) (table : ℕ) (column : Ident) (keys : List Key) (i : ℕ) (pairs : List Pair) → length keys ≤ i
+pub all_paired : (o n : Face) (a b : Option (List ReadValue)) (left : List (Place × LeftRow)) (table : ℕ) (column : Ident) (keys : List Key) (i : ℕ) (pairs : List Pair) → length keys ≤ i
     → Follows o n a b (λ t. pairs ≡ values_at (over left t) table column (take i keys)) → Follows o n a b (λ t. pairs ≡ values_at (over left t) table column keys)
 all_paired o n a b left table column keys i pairs le f = so o n a b _ _ f (λ t h. h ∙ ap (values_at (over left t) table column) (take_all i keys le))
 

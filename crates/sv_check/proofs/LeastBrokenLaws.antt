@@ -20,6 +20,7 @@ use Rattle.sv_app.specs.Schema.{Rule, Bound, OneOf, Different, Refers, Invariant
 use Rattle.sv_app.specs.Tables.{Row, Tables}
 use Rattle.sv_app.specs.Valid.{value_of, key_by, place_at, IsKept, IsPresent, Binds, Holds, IsInvariant}
 use Rattle.sv_app.proofs.PlaceLaws.{place_total, exact_places}
+use Rattle.sv_effect.specs.Faces.{Face}
 use Rattle.sv_effect.specs.Follows.{Follows}
 use Rattle.sv_effect.specs.Reads.{ReadValue}
 use Rattle.sv_effect.specs.TablesOfCut.{is_place}
@@ -73,14 +74,14 @@ second_of false b e = e
 pub key_itself : (k : Key) → eq_by_cmp key_cmp k k ≡ true
 key_itself k = (eq_by_cmp_equiv key_total).refl k
 
-pub none_looked : (o n : Option Tables) (a b : Option (List ReadValue)) (schema : List Declaration) (left : List (Place × LeftRow)) (table : ℕ) (rule : Rule) (keys : List Key) → n ≡ o → b ≡ a
+pub none_looked : (o n : Face) (a b : Option (List ReadValue)) (schema : List Declaration) (left : List (Place × LeftRow)) (table : ℕ) (rule : Rule) (keys : List Key) → n ≡ o → b ≡ a
     → Follows o n a b (LeastAmong schema left table rule (take 0 keys) None)
 none_looked o n a b schema left table rule keys same stands = quiet o n a b _ same stands (λ t after k h. none_there h.0)
   where
     none_there : false ≡ true → ⊥
     none_there e = cc
 
-pub one_looked : (o m n : Option Tables) (a b c : Option (List ReadValue)) (schema : List Declaration) (left : List (Place × LeftRow)) (table : ℕ) (rule : Rule) (keys : List Key) (i : ℕ) (key : Key)
+pub one_looked : (o m n : Face) (a b c : Option (List ReadValue)) (schema : List Declaration) (left : List (Place × LeftRow)) (table : ℕ) (rule : Rule) (keys : List Key) (i : ℕ) (key : Key)
     (found new : Option Key) (broken : Bool) → i < length keys → key ≡ get_or keys i key → Follows o m a b (LeastAmong schema left table rule (take i keys) found)
     → Follows m n b c (PlaceSays schema left (place_at table key) rule broken) → new ≡ cond broken (lesser found (Some key)) found
     → Follows o n a c (LeastAmong schema left table rule (take (i + 1) keys) new)
@@ -107,7 +108,7 @@ one_looked o m n a b c schema left table rule keys i key found new broken less i
     by t false before says = least_same (Both t (take i keys)) (Both t (take (i + 1) keys)) found before (to t)
         (λ k h. ⊎_elim (λ x. x) (λ x. absurd (says (subst (BrokenAt schema (over left t) table rule) x.0 x.1))) (from t k h))
 
-pub all_looked : (o n : Option Tables) (a b : Option (List ReadValue)) (schema : List Declaration) (left : List (Place × LeftRow)) (table : ℕ) (rule : Rule) (keys : List Key) (i : ℕ) (found : Option Key)
+pub all_looked : (o n : Face) (a b : Option (List ReadValue)) (schema : List Declaration) (left : List (Place × LeftRow)) (table : ℕ) (rule : Rule) (keys : List Key) (i : ℕ) (found : Option Key)
     → length keys ≤ i → Follows o n a b (LeastAmong schema left table rule (take i keys) found) → Follows o n a b (LeastAmong schema left table rule keys found)
 all_looked o n a b schema left table rule keys i found le f = so o n a b _ _ f (λ t h. subst (λ ks. LeastAmong schema left table rule ks found t) (take_all i keys le) h)
 
@@ -291,13 +292,13 @@ clash_least schema left t table column keys pairs found candidates is least afte
 
 -- ---- as the calls follow each other
 
-pub own_broken : (o m n : Option Tables) (a b c : Option (List ReadValue)) (schema : List Declaration) (left : List (Place × LeftRow)) (table : ℕ) (inv : Inv) (walk : Bool) (keys : List Key) (found : Option Key)
+pub own_broken : (o m n : Face) (a b c : Option (List ReadValue)) (schema : List Declaration) (left : List (Place × LeftRow)) (table : ℕ) (inv : Inv) (walk : Bool) (keys : List Key) (found : Option Key)
     → Follows o m a b (AreCandidates walk left table keys) → walk ≡ walks (rule_of inv.body) left → Follows m n b c (LeastAmong schema left table (rule_of inv.body) keys found)
     → IsInvariant schema table (invariant_of inv) → IsOwn (rule_of inv.body) → Follows o n a c (LeastBroken schema left table (rule_of inv.body) found)
 own_broken o m n a b c schema left table inv walk keys found f is g declared own =
     next_to o m n a b c _ _ _ f g (λ t candidates among. own_least schema left t table (invariant_of inv) keys found (subst (λ w. AreCandidates w left table keys t) is candidates) declared own among)
 
-pub clash_broken : (o m n : Option Tables) (a b c : Option (List ReadValue)) (schema : List Declaration) (left : List (Place × LeftRow)) (table : ℕ) (body : InvBody) (column : Ident) (keys : List Key)
+pub clash_broken : (o m n : Face) (a b c : Option (List ReadValue)) (schema : List Declaration) (left : List (Place × LeftRow)) (table : ℕ) (body : InvBody) (column : Ident) (keys : List Key)
     (pairs : List Pair) (found : Option Key) → Follows o m a b (AreCandidates true left table keys) → body ≡ bodies.Unique column
     → Follows m n b c (λ t. pairs ≡ values_at (over left t) table column keys) → IsLeast (Clashes pairs) found → Follows o n a c (LeastBroken schema left table (rule_of body) found)
 clash_broken o m n a b c schema left table body column keys pairs found f unique g least =
@@ -313,7 +314,7 @@ none_touched (x ∷ left) table key e = by (x.0.table == table) refl e (none_tou
     by false h e ih = (λ i. other_table table key x.0 h i || is_left (place_at table key) left) ∙ ih e
 
 -- no row of the table was changed, so its values differ as they did before
-pub untouched : (o n : Option Tables) (a b : Option (List ReadValue)) (schema : List Declaration) (left : List (Place × LeftRow)) (table : ℕ) (inv : Inv) (column : Ident) (touched : Bool) → n ≡ o → b ≡ a
+pub untouched : (o n : Face) (a b : Option (List ReadValue)) (schema : List Declaration) (left : List (Place × LeftRow)) (table : ℕ) (inv : Inv) (column : Ident) (touched : Bool) → n ≡ o → b ≡ a
     → IsInvariant schema table (invariant_of inv) → inv.body ≡ bodies.Unique column → touched ≡ is_touched left table → touched ≡ false → Follows o n a b (LeastBroken schema left table (rule_of inv.body) None)
 untouched o n a b schema left table inv column touched same stands declared unique is none_left =
     quiet o n a b _ same stands (λ t after. subst (λ x. IsLeast (BrokenAt schema (over left t) table (rule_of x)) None) (sym unique) (λ key broken. broken.breaks (λ present other with_it kept there equal.

@@ -5,6 +5,7 @@ use Rattle.sv_app.specs.declared.places.Place.{Place}
 use Rattle.sv_app.specs.Tables.{Row, Tables}
 use Rattle.sv_app.proofs.PlaceLaws.{place_total}
 use Rattle.sv_effect.specs.Agrees.{place_at, seen_in, seen_at}
+use Rattle.sv_effect.specs.Faces.{Face}
 use Rattle.sv_effect.specs.Follows.{Follows}
 use Rattle.sv_effect.specs.Reads.{SeenValue, ReadValue}
 use Rattle.sv_effect.specs.TablesOfCut.{is_place}
@@ -23,12 +24,12 @@ told_back None = refl
 told_back (Some row) = refl
 
 -- a change left the row
-pub look_left : (o n : Option Tables) (a b : Option (List ReadValue)) (left : List (Place × LeftRow)) (p : Place) (found : Row) (row : Option LeftRow)
+pub look_left : (o n : Face) (a b : Option (List ReadValue)) (left : List (Place × LeftRow)) (p : Place) (found : Row) (row : Option LeftRow)
     → n ≡ o → b ≡ a → ((t : Tables) → get (over left t) p ≡ Some found) → left_rows row ≡ Some found → Follows o n a b (λ t. get (over left t) p ≡ left_rows row)
 look_left o n a b left p found row same stands h e = quiet o n a b _ same stands (λ t. h t ∙ sym e)
 
 -- the row before is asked for
-pub look_behind : (o n : Option Tables) (a b : Option (List ReadValue)) (left : List (Place × LeftRow)) (p : Place) (seen : SeenValue) (row : Option LeftRow)
+pub look_behind : (o n : Face) (a b : Option (List ReadValue)) (left : List (Place × LeftRow)) (p : Place) (seen : SeenValue) (row : Option LeftRow)
     → Follows o n a b (λ t. seen_at t (place_at p.table p.key) ≡ seen) → ((t : Tables) → get (over left t) p ≡ get t p) → left_rows row ≡ told_row seen
     → Follows o n a b (λ t. get (over left t) p ≡ left_rows row)
 look_behind o n a b left p seen row f h e = so o n a b _ _ f (λ t g. h t ∙ sym (told_back (get t p)) ∙ ap told_row g ∙ sym e)

@@ -26,6 +26,7 @@ use Rattle.sv_app.proofs.PlaceLaws.{place_total, exact_places}
 use Rattle.sv_effect.specs.declared.ops.RowEffect.{RowEffect}
 use Rattle.sv_effect.specs.Agrees.{is_present}
 use Rattle.sv_effect.specs.Fits.{FitsSchema, AllFit}
+use Rattle.sv_effect.specs.Faces.{Face}
 use Rattle.sv_effect.specs.Follows.{Follows}
 use Rattle.sv_effect.specs.Reads.{ReadValue}
 use Rattle.sv_effect.specs.RowChange.{turn_of}
@@ -55,7 +56,7 @@ abbrev pub PassedIn : List Declaration → List (Place × LeftRow) → ℕ → �
 PassedIn schema left table i t = IsAfter schema left t → (place : ℕ) (inv : Invariant) → place < i → slice_get (rules_of (slice_get schema table)) place ≡ Some inv
     → (key : Key) → BrokenAt schema (over left t) table inv.rule key → ⊥
 
-pub none_passed : (o n : Option Tables) (a b : Option (List ReadValue)) (schema : List Declaration) (left : List (Place × LeftRow)) (table : ℕ) → n ≡ o → b ≡ a → Follows o n a b (PassedIn schema left table 0)
+pub none_passed : (o n : Face) (a b : Option (List ReadValue)) (schema : List Declaration) (left : List (Place × LeftRow)) (table : ℕ) → n ≡ o → b ≡ a → Follows o n a b (PassedIn schema left table 0)
 none_passed o n a b schema left table same stands = quiet o n a b _ same stands (λ t after place inv less. absurd (omega (arith, less)))
 
 rule_at : (invs : List Inv) (i : ℕ) (inv : Inv) → i < length invs → inv ≡ get_or invs i inv → slice_get (map invariant_of invs) i ≡ Some (invariant_of inv)
@@ -78,7 +79,7 @@ pub inv_declared : (schema : List Declaration) (table : ℕ) (invs : List Inv) (
     → IsInvariant schema table (invariant_of inv)
 inv_declared schema table invs i inv are less is = invariant_at schema table i (invariant_of inv) (rule_here schema table invs i inv are less is)
 
-pub one_passed : (o m n : Option Tables) (a b c : Option (List ReadValue)) (schema : List Declaration) (left : List (Place × LeftRow)) (table : ℕ) (invs : List Inv) (i : ℕ) (inv : Inv) (found : Option Key)
+pub one_passed : (o m n : Face) (a b c : Option (List ReadValue)) (schema : List Declaration) (left : List (Place × LeftRow)) (table : ℕ) (invs : List Inv) (i : ℕ) (inv : Inv) (found : Option Key)
     → map invariant_of invs ≡ rules_of (slice_get schema table) → i < length invs → inv ≡ get_or invs i inv
     → Follows o m a b (PassedIn schema left table i) → Follows m n b c (LeastBroken schema left table (rule_of inv.body) found) → found ≡ None → Follows o n a c (PassedIn schema left table (i + 1))
 one_passed o m n a b c schema left table invs i inv found are less is f g none_found =
@@ -91,7 +92,7 @@ one_passed o m n a b c schema left table invs i inv found are less is f g none_f
         λ key broken. subst (λ r. IsLeast (BrokenAt schema (over left t) table (rule_of inv.body)) r) none_found (least after) key (subst (λ x. BrokenAt schema (over left t) table x.rule key) same broken)
     by t before least after place other below at (inr apart) = before after place other (omega (arith, below, apart)) at
 
-pub first_found : (o m n : Option Tables) (a b c : Option (List ReadValue)) (schema : List Declaration) (left : List (Place × LeftRow)) (table : ℕ) (invs : List Inv) (i : ℕ) (inv : Inv) (found : Option Key) (key : Key)
+pub first_found : (o m n : Face) (a b c : Option (List ReadValue)) (schema : List Declaration) (left : List (Place × LeftRow)) (table : ℕ) (invs : List Inv) (i : ℕ) (inv : Inv) (found : Option Key) (key : Key)
     → map invariant_of invs ≡ rules_of (slice_get schema table) → i < length invs → inv ≡ get_or invs i inv
     → Follows o m a b (PassedIn schema left table i) → Follows m n b c (LeastBroken schema left table (rule_of inv.body) found) → found ≡ Some key
     → Follows o n a c (TableSays schema left table (Breaks inv.number key))
@@ -105,7 +106,7 @@ first_found o m n a b c schema left table invs i inv found key are less is f g i
       before = λ earlier other below at k broken. before after earlier other below at k broken;
     })
 
-pub none_in : (o n : Option Tables) (a b : Option (List ReadValue)) (schema : List Declaration) (left : List (Place × LeftRow)) (table : ℕ) (invs : List Inv) (i : ℕ)
+pub none_in : (o n : Face) (a b : Option (List ReadValue)) (schema : List Declaration) (left : List (Place × LeftRow)) (table : ℕ) (invs : List Inv) (i : ℕ)
     → map invariant_of invs ≡ rules_of (slice_get schema table) → length invs ≤ i → Follows o n a b (PassedIn schema left table i) → Follows o n a b (TableSays schema left table Keeps)
 none_in o n a b schema left table invs i are le f =
     so o n a b _ _ f (λ t passed after place inv at. passed after place inv (below place inv at) at)
@@ -124,10 +125,10 @@ none_in o n a b schema left table invs i are le f =
 abbrev pub PassedTables : List Declaration → List (Place × LeftRow) → ℕ → Tables → Type 0
 PassedTables schema left n t = IsAfter schema left t → (table : ℕ) → table < n → NoneIn schema (over left t) table
 
-pub no_table : (o n : Option Tables) (a b : Option (List ReadValue)) (schema : List Declaration) (left : List (Place × LeftRow)) → n ≡ o → b ≡ a → Follows o n a b (PassedTables schema left 0)
+pub no_table : (o n : Face) (a b : Option (List ReadValue)) (schema : List Declaration) (left : List (Place × LeftRow)) → n ≡ o → b ≡ a → Follows o n a b (PassedTables schema left 0)
 no_table o n a b schema left same stands = quiet o n a b _ same stands (λ t after table less. absurd (omega (arith, less)))
 
-pub one_table : (o m n : Option Tables) (a b c : Option (List ReadValue)) (schema : List Declaration) (left : List (Place × LeftRow)) (table : ℕ) (verdict : Verdict) → Follows o m a b (PassedTables schema left table)
+pub one_table : (o m n : Face) (a b c : Option (List ReadValue)) (schema : List Declaration) (left : List (Place × LeftRow)) (table : ℕ) (verdict : Verdict) → Follows o m a b (PassedTables schema left table)
     → Follows m n b c (TableSays schema left table verdict) → verdict ≡ Keeps → Follows o n a c (PassedTables schema left (table + 1))
 one_table o m n a b c schema left table verdict f g is =
     next_to o m n a b c _ _ _ f g (λ t before says after earlier below. by t before (subst (λ v. TableSays schema left table v t) is says) after earlier below (cases_eq earlier table))
@@ -137,12 +138,12 @@ one_table o m n a b c schema left table verdict f g is =
     by t before says after earlier below (inl e) = subst (NoneIn schema (over left t)) (sym e) (says after)
     by t before says after earlier below (inr apart) = before after earlier (omega (arith, below, apart))
 
-pub first_table : (o m n : Option Tables) (a b c : Option (List ReadValue)) (schema : List Declaration) (left : List (Place × LeftRow)) (table : ℕ) (verdict : Verdict) (number : ℕ) (key : Key)
+pub first_table : (o m n : Face) (a b c : Option (List ReadValue)) (schema : List Declaration) (left : List (Place × LeftRow)) (table : ℕ) (verdict : Verdict) (number : ℕ) (key : Key)
     → Follows o m a b (PassedTables schema left table) → Follows m n b c (TableSays schema left table verdict) → verdict ≡ Breaks number key → Follows o n a c (AllSay schema left (Breaks number key))
 first_table o m n a b c schema left table verdict number key f g is =
     next_to o m n a b c _ _ _ f g (λ t before says after. record { table = table; first = subst (λ v. TableSays schema left table v t) is says after; before = before after })
 
-pub no_table_breaks : (o n : Option Tables) (a b : Option (List ReadValue)) (schema : List Declaration) (left : List (Place × LeftRow)) (i : ℕ) → length schema ≤ i → Follows o n a b (PassedTables schema left i)
+pub no_table_breaks : (o n : Face) (a b : Option (List ReadValue)) (schema : List Declaration) (left : List (Place × LeftRow)) (i : ℕ) → length schema ≤ i → Follows o n a b (PassedTables schema left i)
     → Follows o n a b (AllSay schema left Keeps)
 no_table_breaks o n a b schema left i le f =
     so o n a b _ _ f (λ t passed after table place inv at. passed after table (below table place inv (invariant_at schema table place inv at)) place inv at)
@@ -302,7 +303,7 @@ pub still_grown : (schema : List Declaration) (es : List RowEffect) (t : Tables)
 still_grown schema [] t fits found grown = grown
 still_grown schema (e ∷ es) t fits found grown = still_grown schema es (with_effect schema (effect_of e) t) fits.1 found.1 (one_grown schema e t fits.0 found.0 grown)
 
-pub judged : (o m n : Option Tables) (a b c : Option (List ReadValue)) (schema : List Declaration) (es : List RowEffect) (left : List (Place × LeftRow)) (verdict : Verdict) → AcceptedSchema schema → AllFit schema es
+pub judged : (o m n : Face) (a b c : Option (List ReadValue)) (schema : List Declaration) (es : List RowEffect) (left : List (Place × LeftRow)) (verdict : Verdict) → AcceptedSchema schema → AllFit schema es
     → Follows o m a b (λ t. over left t ≡ with_effects schema (map effect_of es) t) → Follows m n b c (AllSay schema left verdict) → Follows o n a c (Judges schema (map effect_of es) verdict)
 judged o m n a b c schema es left verdict accepted fits f g = next_to o m n a b c _ _ _ f g (λ t made says valid found.
     by t verdict made says (record { valid = valid; grown = subst (AreGrown schema) (sym made) (still_grown schema es t fits found valid.grown) }))

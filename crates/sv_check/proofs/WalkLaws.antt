@@ -14,6 +14,7 @@ use Rattle.sv_app.specs.declared.places.Place.{Place}
 use Rattle.sv_app.specs.Tables.{Tables}
 use Rattle.sv_app.specs.Valid.{place_at}
 use Rattle.sv_effect.specs.Agrees.{is_present, is_after, IsNextKey}
+use Rattle.sv_effect.specs.Faces.{Face}
 use Rattle.sv_effect.specs.Follows.{Follows}
 use Rattle.sv_effect.specs.Reads.{ReadValue}
 use Rattle.sv_effect.specs.TablesOfCut.{is_place}
@@ -53,16 +54,16 @@ further t table after next keys is up_to key present not_after = has_more key ke
         same true less = clash (is_present t table key) present (is.2 key e less)
         same false less = ap (λ k. has_key key (k ∷ [])) (sym (neither key next less not_after)) ∙ has_itself key
 
-pub none_walked : (o n : Option Tables) (a b : Option (List ReadValue)) (table : ℕ) (after : Option Key) (keys : List Key) → n ≡ o → b ≡ a → after ≡ None → Follows o n a b (λ t. HasUpTo t table after keys)
+pub none_walked : (o n : Face) (a b : Option (List ReadValue)) (table : ℕ) (after : Option Key) (keys : List Key) → n ≡ o → b ≡ a → after ≡ None → Follows o n a b (λ t. HasUpTo t table after keys)
 none_walked o n a b table after keys same stands is = quiet o n a b _ same stands (λ t key present not_after. clash (is_after after key) (ap (λ x. is_after x key) is) not_after)
 
-pub one_walked : (o m n : Option Tables) (a b c : Option (List ReadValue)) (table : ℕ) (after found : Option Key) (next : Key) (keys : List Key)
+pub one_walked : (o m n : Face) (a b c : Option (List ReadValue)) (table : ℕ) (after found : Option Key) (next : Key) (keys : List Key)
     → Follows o m a b (λ t. HasUpTo t table after keys) → Follows m n b c (λ t. IsNextKey t table after found) → found ≡ Some next
     → Follows o n a c (λ t. HasUpTo t table (Some next) (keys ++ next ∷ []))
 one_walked o m n a b c table after found next keys f g is =
     next_to o m n a b c _ _ _ f g (λ t up_to is_next. further t table after next keys (subst (IsNextKey t table after) is is_next) up_to)
 
-pub all_walked : (o m n : Option Tables) (a b c : Option (List ReadValue)) (table : ℕ) (after found : Option Key) (keys : List Key)
+pub all_walked : (o m n : Face) (a b c : Option (List ReadValue)) (table : ℕ) (after found : Option Key) (keys : List Key)
     → Follows o m a b (λ t. HasUpTo t table after keys) → Follows m n b c (λ t. IsNextKey t table after found) → found ≡ None
     → Follows o n a c (λ t. HasPresent t table keys)
 all_walked o m n a b c table after found keys f g is =
@@ -118,14 +119,14 @@ left_passed table left i e before keys key less is there held =
     held ∙ ap (λ b. before || b) (sym (left_more (place_at table key) left i e less is ∙ ap (λ b. is_left (place_at table key) (take i left) || b) (other_table table key e.0 there) ∙ or_none (is_left (place_at table key) (take i left))))
 
 -- the table was walked, and the keys of the rows that changes left were added
-pub were_walked : (o n : Option Tables) (a b : Option (List ReadValue)) (left : List (Place × LeftRow)) (table : ℕ) (keys all : List Key)
+pub were_walked : (o n : Face) (a b : Option (List ReadValue)) (left : List (Place × LeftRow)) (table : ℕ) (keys all : List Key)
     → Follows o n a b (λ t. HasPresent t table keys) → ((key : Key) → has_key key all ≡ (has_key key keys || is_left (place_at table key) left)) → Follows o n a b (AreCandidates true left table all)
 were_walked o n a b left table keys all f more = so o n a b _ _ f (λ t present. record {
   changed = λ key is. more key ∙ or_right_true (has_key key keys) (is_left (place_at table key) left) is;
   present = λ _ key is. more key ∙ or_left_true (has_key key keys) (is_left (place_at table key) left) (present key is);
 })
 
-pub not_walked : (o n : Option Tables) (a b : Option (List ReadValue)) (left : List (Place × LeftRow)) (table : ℕ) (keys all : List Key) → n ≡ o → b ≡ a
+pub not_walked : (o n : Face) (a b : Option (List ReadValue)) (left : List (Place × LeftRow)) (table : ℕ) (keys all : List Key) → n ≡ o → b ≡ a
     → ((key : Key) → has_key key all ≡ (has_key key keys || is_left (place_at table key) left)) → Follows o n a b (AreCandidates false left table all)
 not_walked o n a b left table keys all same stands more = quiet o n a b _ same stands (λ t. record {
   changed = λ key is. more key ∙ or_right_true (has_key key keys) (is_left (place_at table key) left) is;

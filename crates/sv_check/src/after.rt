@@ -1,11 +1,10 @@
 //! Invariants after changes.
 
-ghost use Rattle.std.specs.Prelude.{◌≡◌, ◌≤◌, ◌<◌, false, List, Err, IfOk, length, map, slice_get};
+ghost use Rattle.std.specs.Prelude.{◌≡◌, ◌≤◌, ◌<◌, List, IfOk, length, map, slice_get};
 ghost use Rattle.sv_app.specs.Accepted.{AcceptedSchema};
-ghost use Rattle.sv_app.specs.Schema.{Declaration, schema_of, invariant_of};
-ghost use Rattle.sv_effect.specs.declared.reads.Ask.{Ask as AskValue};
-ghost use Rattle.sv_effect.specs.declared.reads.Halt.TheVariants as halt;
+ghost use Rattle.sv_app.specs.Schema.{schema_of, invariant_of};
 ghost use Rattle.sv_effect.specs.Fits.{AllFit};
+ghost use Rattle.sv_effect.specs.Asked.{Asked};
 ghost use Rattle.sv_effect.specs.Follows.{Follows};
 ghost use Rattle.sv_effect.specs.RunChanges.{effect_of};
 ghost use Rattle.sv_check.specs.Bounds.{LeftBounded};
@@ -33,13 +32,9 @@ fn first_in<R: Rows>(
     requires accepted { AcceptedSchema (schema_of app.now.tables.items) }
     requires rows { R.is_of rows.old (schema_of app.now.tables.items) }
     requires bounded { LeftBounded (schema_of app.now.tables.items) 0 left.now }
-    ensures followed { IfOk result (λ verdict. Follows (R.tables rows.old) (R.tables rows.new) (R.noted rows.old) (R.noted rows.new)
+    ensures followed { IfOk result (λ verdict. Follows (R.face rows.old) (R.face rows.new) (R.noted rows.old) (R.noted rows.new)
         (TableSays (schema_of app.now.tables.items) left.now table verdict)) }
-    ensures same_app { (schema : List Declaration) → R.is_of rows.old schema → R.is_of rows.new schema }
-    ensures same_tables { R.tables rows.new ≡ R.tables rows.old }
-    ensures same_knows { R.knows rows.new ≡ R.knows rows.old }
-    ensures same_rest { R.rest rows.new ≡ R.rest rows.old }
-    ensures missing { (a : AskValue) → result ≡ Err (halt.Missing a) → R.knows rows.old a ≡ false }
+    ensures asked { Asked R.stays R.face rows.old rows.new result }
 {
     for inv in invs {
         match least_broken(alloc, app, table, inv, left, rows)? {
@@ -65,13 +60,9 @@ fn first_broken<R: Rows>(
     requires accepted { AcceptedSchema (schema_of app.now.tables.items) }
     requires rows { R.is_of rows.old (schema_of app.now.tables.items) }
     requires bounded { LeftBounded (schema_of app.now.tables.items) 0 left.now }
-    ensures followed { IfOk result (λ verdict. Follows (R.tables rows.old) (R.tables rows.new) (R.noted rows.old) (R.noted rows.new)
+    ensures followed { IfOk result (λ verdict. Follows (R.face rows.old) (R.face rows.new) (R.noted rows.old) (R.noted rows.new)
         (AllSay (schema_of app.now.tables.items) left.now verdict)) }
-    ensures same_app { (schema : List Declaration) → R.is_of rows.old schema → R.is_of rows.new schema }
-    ensures same_tables { R.tables rows.new ≡ R.tables rows.old }
-    ensures same_knows { R.knows rows.new ≡ R.knows rows.old }
-    ensures same_rest { R.rest rows.new ≡ R.rest rows.old }
-    ensures missing { (a : AskValue) → result ≡ Err (halt.Missing a) → R.knows rows.old a ≡ false }
+    ensures asked { Asked R.stays R.face rows.old rows.new result }
 {
     for table in 0..app.tables.len() {
         let invs = app.tables[table].invs.as_slice();
@@ -100,13 +91,9 @@ pub fn check_after<R: Rows>(
     requires rows { R.is_of rows.old (schema_of app.now.tables.items) }
     requires fits { AllFit (schema_of app.now.tables.items) effects.now }
     requires few { length effects.now ≤ 64 }
-    ensures judged { IfOk result (λ verdict. Follows (R.tables rows.old) (R.tables rows.new) (R.noted rows.old) (R.noted rows.new)
+    ensures judged { IfOk result (λ verdict. Follows (R.face rows.old) (R.face rows.new) (R.noted rows.old) (R.noted rows.new)
         (Judges (schema_of app.now.tables.items) (map effect_of effects.now) verdict)) }
-    ensures same_app { (schema : List Declaration) → R.is_of rows.old schema → R.is_of rows.new schema }
-    ensures same_tables { R.tables rows.new ≡ R.tables rows.old }
-    ensures same_knows { R.knows rows.new ≡ R.knows rows.old }
-    ensures same_rest { R.rest rows.new ≡ R.rest rows.old }
-    ensures missing { (ask : AskValue) → result ≡ Err (halt.Missing ask) → R.knows rows.old ask ≡ false }
+    ensures asked { Asked R.stays R.face rows.old rows.new result }
 {
     let left = rows_after(alloc, app, effects, rows)?;
     let verdict = first_broken(alloc, app, &left, rows)?;

@@ -1,13 +1,12 @@
 //! Whether a rule is broken at a key after changes.
 
-ghost use Rattle.std.specs.Prelude.{◌≡◌, true, false, Err, List, IfOk, slice_get};
+ghost use Rattle.std.specs.Prelude.{◌≡◌, true, false, List, IfOk, slice_get};
 ghost use Rattle.sv_app.specs.Accepted.{AcceptedSchema};
 ghost use Rattle.sv_app.specs.Kinds.{is_grow_only};
-ghost use Rattle.sv_app.specs.Schema.{Declaration, schema_of, rule_of, invariant_of};
+ghost use Rattle.sv_app.specs.Schema.{schema_of, rule_of, invariant_of};
 ghost use Rattle.sv_app.specs.Valid.{number_of, value_of, side_of, key_by, Binds, IsInvariant};
-ghost use Rattle.sv_effect.specs.declared.reads.Ask.{Ask as AskValue};
-ghost use Rattle.sv_effect.specs.declared.reads.Halt.TheVariants as halt;
 ghost use Rattle.sv_effect.specs.Agrees.{is_present};
+ghost use Rattle.sv_effect.specs.Asked.{Asked};
 ghost use Rattle.sv_effect.specs.Follows.{Follows};
 ghost use Rattle.sv_effect.specs.RunValues.{column as value_among};
 ghost use Rattle.sv_check.specs.Bounds.{IsWordGot, AreBounded, LeftBounded};
@@ -122,13 +121,9 @@ fn stands<R: Rows>(
     sure: bool,
     rows: &mut R,
 ) -> Result<bool, Halt>
-    ensures followed { IfOk result (λ stands. Follows (R.tables rows.old) (R.tables rows.new) (R.noted rows.old) (R.noted rows.new)
+    ensures followed { IfOk result (λ stands. Follows (R.face rows.old) (R.face rows.new) (R.noted rows.old) (R.noted rows.new)
         (λ t. (sure ≡ true → is_present t place.now.table place.now.key ≡ true) → is_present (over left.now t) place.now.table place.now.key ≡ stands)) }
-    ensures same_app { (schema : List Declaration) → R.is_of rows.old schema → R.is_of rows.new schema }
-    ensures same_tables { R.tables rows.new ≡ R.tables rows.old }
-    ensures same_knows { R.knows rows.new ≡ R.knows rows.old }
-    ensures same_rest { R.rest rows.new ≡ R.rest rows.old }
-    ensures missing { (a : AskValue) → result ≡ Err (halt.Missing a) → R.knows rows.old a ≡ false }
+    ensures asked { Asked R.stays R.face rows.old rows.new result }
 {
     match left_at(left, place) {
         Some(row) => Ok(row.present),
@@ -156,13 +151,9 @@ fn row_breaks<R: Rows>(
     requires declared { IsInvariant (schema_of app.now.tables.items) place.now.table (invariant_of inv.now) }
     requires accepted { AcceptedSchema (schema_of app.now.tables.items) }
     requires bounded { AreBounded (slice_get (schema_of app.now.tables.items) place.now.table) 0 row.now.values }
-    ensures followed { IfOk result (λ breaks. Follows (R.tables rows.old) (R.tables rows.new) (R.noted rows.old) (R.noted rows.new)
+    ensures followed { IfOk result (λ breaks. Follows (R.face rows.old) (R.face rows.new) (R.noted rows.old) (R.noted rows.new)
         (RowSays (schema_of app.now.tables.items) left.now place.now (left_row row.now) (rule_of inv.now.body) breaks)) }
-    ensures same_app { (schema : List Declaration) → R.is_of rows.old schema → R.is_of rows.new schema }
-    ensures same_tables { R.tables rows.new ≡ R.tables rows.old }
-    ensures same_knows { R.knows rows.new ≡ R.knows rows.old }
-    ensures same_rest { R.rest rows.new ≡ R.rest rows.old }
-    ensures missing { (a : AskValue) → result ≡ Err (halt.Missing a) → R.knows rows.old a ≡ false }
+    ensures asked { Asked R.stays R.face rows.old rows.new result }
 {
     match &inv.body {
         InvBody::Check(check) => Ok(!is_met(row, check)),
@@ -198,13 +189,9 @@ pub fn is_broken<R: Rows>(
     requires accepted { AcceptedSchema (schema_of app.now.tables.items) }
     requires rows { R.is_of rows.old (schema_of app.now.tables.items) }
     requires bounded { LeftBounded (schema_of app.now.tables.items) 0 left.now }
-    ensures followed { IfOk result (λ broken. Follows (R.tables rows.old) (R.tables rows.new) (R.noted rows.old) (R.noted rows.new)
+    ensures followed { IfOk result (λ broken. Follows (R.face rows.old) (R.face rows.new) (R.noted rows.old) (R.noted rows.new)
         (PlaceSays (schema_of app.now.tables.items) left.now place.now (rule_of inv.now.body) broken)) }
-    ensures same_app { (schema : List Declaration) → R.is_of rows.old schema → R.is_of rows.new schema }
-    ensures same_tables { R.tables rows.new ≡ R.tables rows.old }
-    ensures same_knows { R.knows rows.new ≡ R.knows rows.old }
-    ensures same_rest { R.rest rows.new ≡ R.rest rows.old }
-    ensures missing { (a : AskValue) → result ≡ Err (halt.Missing a) → R.knows rows.old a ≡ false }
+    ensures asked { Asked R.stays R.face rows.old rows.new result }
 {
     match look(alloc, left, rows, place)? {
         None => Ok(false),

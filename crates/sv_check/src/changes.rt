@@ -1,13 +1,12 @@
 //! The rows that changes leave, each write winning.
 
-ghost use Rattle.std.specs.Prelude.{◌≡◌, ◌≤◌, ◌<◌, ◌+◌, ℕ, suc, Err, Some, false, length, List, IfOk, OnOk, map, slice_get, unwrap_or};
-ghost use Rattle.sv_app.specs.Schema.{Declaration, schema_of};
+ghost use Rattle.std.specs.Prelude.{◌≡◌, ◌≤◌, ◌<◌, ◌+◌, ℕ, suc, Some, false, length, List, IfOk, OnOk, map, slice_get, unwrap_or};
+ghost use Rattle.sv_app.specs.Schema.{schema_of};
 ghost use Rattle.sv_app.specs.Tables.{Tables};
-ghost use Rattle.sv_effect.specs.declared.reads.Ask.{Ask as AskValue};
-ghost use Rattle.sv_effect.specs.declared.reads.Halt.TheVariants as halt;
 ghost use Rattle.sv_effect.specs.Applied.{place_of, zeros_in};
 ghost use Rattle.sv_effect.specs.BareTables.{got_of};
 ghost use Rattle.sv_effect.specs.Fits.{FitsSchema, AllFit};
+ghost use Rattle.sv_effect.specs.Asked.{Asked};
 ghost use Rattle.sv_effect.specs.Follows.{Follows};
 ghost use Rattle.sv_effect.specs.RowChange.{turn_of};
 ghost use Rattle.sv_effect.specs.RunChanges.{effect_of};
@@ -105,13 +104,9 @@ fn change<R: Rows>(
     requires bounded { ChangesBounded (schema_of app.now.tables.items) left.old.items }
     ensures bounded { OnOk result (ChangesBounded (schema_of app.now.tables.items) left.new.items) }
     ensures more { OnOk result (length left.new.items ≡ suc (length left.old.items)) }
-    ensures followed { OnOk result (Follows (R.tables rows.old) (R.tables rows.new) (R.noted rows.old) (R.noted rows.new)
+    ensures followed { OnOk result (Follows (R.face rows.old) (R.face rows.new) (R.noted rows.old) (R.noted rows.new)
         (λ t. over left.new.items t ≡ with_effect (schema_of app.now.tables.items) (effect_of effect.now) (over left.old.items t))) }
-    ensures same_app { (schema : List Declaration) → R.is_of rows.old schema → R.is_of rows.new schema }
-    ensures same_tables { R.tables rows.new ≡ R.tables rows.old }
-    ensures same_knows { R.knows rows.new ≡ R.knows rows.old }
-    ensures same_rest { R.rest rows.new ≡ R.rest rows.old }
-    ensures missing { (a : AskValue) → result ≡ Err (halt.Missing a) → R.knows rows.old a ≡ false }
+    ensures asked { Asked R.stays R.face rows.old rows.new result }
 {
     let place = Place {
         table: effect.table,
@@ -136,13 +131,9 @@ pub fn rows_after<R: Rows>(
     requires fits { AllFit (schema_of app.now.tables.items) effects.now }
     requires few { length effects.now ≤ 64 }
     ensures bounded { IfOk result (λ left. LeftBounded (schema_of app.now.tables.items) 0 left.items) }
-    ensures followed { IfOk result (λ left. Follows (R.tables rows.old) (R.tables rows.new) (R.noted rows.old) (R.noted rows.new)
+    ensures followed { IfOk result (λ left. Follows (R.face rows.old) (R.face rows.new) (R.noted rows.old) (R.noted rows.new)
         (λ t. over left.items t ≡ with_effects (schema_of app.now.tables.items) (map effect_of effects.now) t)) }
-    ensures same_app { (schema : List Declaration) → R.is_of rows.old schema → R.is_of rows.new schema }
-    ensures same_tables { R.tables rows.new ≡ R.tables rows.old }
-    ensures same_knows { R.knows rows.new ≡ R.knows rows.old }
-    ensures same_rest { R.rest rows.new ≡ R.rest rows.old }
-    ensures missing { (a : AskValue) → result ≡ Err (halt.Missing a) → R.knows rows.old a ≡ false }
+    ensures asked { Asked R.stays R.face rows.old rows.new result }
 {
     let mut left = Vec::new(alloc);
     for effect in effects {

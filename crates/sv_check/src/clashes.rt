@@ -1,12 +1,10 @@
 //! Uniqueness after changes.
 
-ghost use Rattle.std.specs.Prelude.{◌≡◌, ◌++◌, false, List, Err, Some, IfOk, OnOk, if◌then◌else◌};
+ghost use Rattle.std.specs.Prelude.{◌≡◌, ◌++◌, List, Some, IfOk, OnOk, if◌then◌else◌};
 ghost use Rattle.std.specs.Ordering.{eq_by_cmp};
 ghost use Rattle.std.specs.BTreeMap.{get as first_at};
 ghost use Rattle.std.specs.FinMap.{get};
-ghost use Rattle.sv_app.specs.Schema.{Declaration};
-ghost use Rattle.sv_effect.specs.declared.reads.Ask.{Ask as AskValue};
-ghost use Rattle.sv_effect.specs.declared.reads.Halt.TheVariants as halt;
+ghost use Rattle.sv_effect.specs.Asked.{Asked};
 ghost use Rattle.sv_effect.specs.Follows.{Follows};
 ghost use Rattle.sv_effect.specs.Reads.{seen_of};
 ghost use Rattle.sv_check.specs.declared.clashes.Ordered.{Ordered as OrderedValue};
@@ -60,13 +58,9 @@ fn value_at<R: Rows>(
     column: &Ident,
     rows: &mut R,
 ) -> Result<Option<Got>, Halt>
-    ensures followed { IfOk result (λ value. Follows (R.tables rows.old) (R.tables rows.new) (R.noted rows.old) (R.noted rows.new)
+    ensures followed { IfOk result (λ value. Follows (R.face rows.old) (R.face rows.new) (R.noted rows.old) (R.noted rows.new)
         (λ t. value ≡ present_value column.now (get (over left.now t) place.now))) }
-    ensures same_app { (schema : List Declaration) → R.is_of rows.old schema → R.is_of rows.new schema }
-    ensures same_tables { R.tables rows.new ≡ R.tables rows.old }
-    ensures same_knows { R.knows rows.new ≡ R.knows rows.old }
-    ensures same_rest { R.rest rows.new ≡ R.rest rows.old }
-    ensures missing { (a : AskValue) → result ≡ Err (halt.Missing a) → R.knows rows.old a ≡ false }
+    ensures asked { Asked R.stays R.face rows.old rows.new result }
 {
     match left_at(left, place) {
         Some(row) => Ok(value_left(row, column)),
@@ -99,13 +93,9 @@ pub fn present_values<R: Rows>(
     keys: &[Key],
     rows: &mut R,
 ) -> Result<Vec<(Key, Got)>, Halt>
-    ensures followed { IfOk result (λ pairs. Follows (R.tables rows.old) (R.tables rows.new) (R.noted rows.old) (R.noted rows.new)
+    ensures followed { IfOk result (λ pairs. Follows (R.face rows.old) (R.face rows.new) (R.noted rows.old) (R.noted rows.new)
         (λ t. pairs.items ≡ values_at (over left.now t) table column.now keys.now)) }
-    ensures same_app { (schema : List Declaration) → R.is_of rows.old schema → R.is_of rows.new schema }
-    ensures same_tables { R.tables rows.new ≡ R.tables rows.old }
-    ensures same_knows { R.knows rows.new ≡ R.knows rows.old }
-    ensures same_rest { R.rest rows.new ≡ R.rest rows.old }
-    ensures missing { (a : AskValue) → result ≡ Err (halt.Missing a) → R.knows rows.old a ≡ false }
+    ensures asked { Asked R.stays R.face rows.old rows.new result }
 {
     let mut pairs = Vec::new(alloc);
     for key in keys {

@@ -1,13 +1,11 @@
 //! The keys at which a rule may be broken after changes.
 
-ghost use Rattle.std.specs.Prelude.{◌≡◌, ◌<◌, ◌||◌, ◌++◌, ◌∷◌, [], Err, Some, false, List, IfOk, IfSome, OnOk};
+ghost use Rattle.std.specs.Prelude.{◌≡◌, ◌<◌, ◌||◌, ◌++◌, ◌∷◌, [], Some, List, IfOk, IfSome, OnOk};
 ghost use Rattle.sv_value.specs.declared.values.Key.{Key as KeyValue};
-ghost use Rattle.sv_app.specs.Schema.{Declaration};
 ghost use Rattle.sv_app.specs.Tables.{Tables};
 ghost use Rattle.sv_app.specs.Valid.{place_at};
-ghost use Rattle.sv_effect.specs.declared.reads.Ask.{Ask as AskValue};
-ghost use Rattle.sv_effect.specs.declared.reads.Halt.TheVariants as halt;
 ghost use Rattle.sv_effect.specs.Agrees.{IsNextKey};
+ghost use Rattle.sv_effect.specs.Asked.{Asked};
 ghost use Rattle.sv_effect.specs.Follows.{Follows};
 ghost use Rattle.sv_check.specs.Left.{is_left};
 ghost use Rattle.sv_check.specs.Least.{lesser, has_key, HasPresent, AreCandidates};
@@ -37,13 +35,9 @@ pub fn lesser(one: Option<Key>, other: Option<Key>) -> Option<Key>
 
 /// The key after that one, or the first.
 fn next_key<R: Rows>(table: u16, after: &Option<Key>, rows: &mut R) -> Result<Option<Key>, Halt>
-    ensures followed { IfOk result (λ next. Follows (R.tables rows.old) (R.tables rows.new) (R.noted rows.old) (R.noted rows.new) (λ t. IsNextKey t table after.now next)) }
-    ensures falls { IfOk result (λ next. IfSome next (λ key. R.rest rows.old table (Some key) < R.rest rows.old table after.now)) }
-    ensures same_app { (schema : List Declaration) → R.is_of rows.old schema → R.is_of rows.new schema }
-    ensures same_tables { R.tables rows.new ≡ R.tables rows.old }
-    ensures same_knows { R.knows rows.new ≡ R.knows rows.old }
-    ensures same_rest { R.rest rows.new ≡ R.rest rows.old }
-    ensures missing { (a : AskValue) → result ≡ Err (halt.Missing a) → R.knows rows.old a ≡ false }
+    ensures followed { IfOk result (λ next. Follows (R.face rows.old) (R.face rows.new) (R.noted rows.old) (R.noted rows.new) (λ t. IsNextKey t table after.now next)) }
+    ensures falls { IfOk result (λ next. IfSome next (λ key. (R.face rows.old).rest table (Some key) < (R.face rows.old).rest table after.now)) }
+    ensures asked { Asked R.stays R.face rows.old rows.new result }
 {
     match after {
         Some(key) => ask_next(rows, table, Some(key)),
@@ -63,12 +57,8 @@ fn add_key(key: &Key, keys: &mut Vec<Key>) -> Result<(), NoMemory>
 /// The keys of the table's present rows before the changes.
 #[tactic(auto, using(crate::proofs::WalkLaws::walking))]
 fn present_keys<R: Rows>(alloc: Global, table: u16, rows: &mut R) -> Result<Vec<Key>, Halt>
-    ensures followed { IfOk result (λ keys. Follows (R.tables rows.old) (R.tables rows.new) (R.noted rows.old) (R.noted rows.new) (λ t. HasPresent t table keys.items)) }
-    ensures same_app { (schema : List Declaration) → R.is_of rows.old schema → R.is_of rows.new schema }
-    ensures same_tables { R.tables rows.new ≡ R.tables rows.old }
-    ensures same_knows { R.knows rows.new ≡ R.knows rows.old }
-    ensures same_rest { R.rest rows.new ≡ R.rest rows.old }
-    ensures missing { (a : AskValue) → result ≡ Err (halt.Missing a) → R.knows rows.old a ≡ false }
+    ensures followed { IfOk result (λ keys. Follows (R.face rows.old) (R.face rows.new) (R.noted rows.old) (R.noted rows.new) (λ t. HasPresent t table keys.items)) }
+    ensures asked { Asked R.stays R.face rows.old rows.new result }
 {
     let mut keys = Vec::new(alloc);
     let mut after: Option<Key> = None;
@@ -104,12 +94,8 @@ pub fn candidates<R: Rows>(
     walk: bool,
     rows: &mut R,
 ) -> Result<Vec<Key>, Halt>
-    ensures followed { IfOk result (λ keys. Follows (R.tables rows.old) (R.tables rows.new) (R.noted rows.old) (R.noted rows.new) (AreCandidates walk left.now table keys.items)) }
-    ensures same_app { (schema : List Declaration) → R.is_of rows.old schema → R.is_of rows.new schema }
-    ensures same_tables { R.tables rows.new ≡ R.tables rows.old }
-    ensures same_knows { R.knows rows.new ≡ R.knows rows.old }
-    ensures same_rest { R.rest rows.new ≡ R.rest rows.old }
-    ensures missing { (a : AskValue) → result ≡ Err (halt.Missing a) → R.knows rows.old a ≡ false }
+    ensures followed { IfOk result (λ keys. Follows (R.face rows.old) (R.face rows.new) (R.noted rows.old) (R.noted rows.new) (AreCandidates walk left.now table keys.items)) }
+    ensures asked { Asked R.stays R.face rows.old rows.new result }
 {
     if walk {
         let mut keys = present_keys(alloc, table, rows)?;

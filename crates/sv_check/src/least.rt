@@ -1,11 +1,10 @@
 //! The least key at which a rule is broken after changes.
 
-ghost use Rattle.std.specs.Prelude.{◌≡◌, false, List, Err, IfOk, if◌then◌else◌};
+ghost use Rattle.std.specs.Prelude.{◌≡◌, false, List, IfOk, if◌then◌else◌};
 ghost use Rattle.sv_app.specs.Accepted.{AcceptedSchema};
-ghost use Rattle.sv_app.specs.Schema.{Declaration, schema_of, rule_of, invariant_of};
+ghost use Rattle.sv_app.specs.Schema.{schema_of, rule_of, invariant_of};
 ghost use Rattle.sv_app.specs.Valid.{IsInvariant};
-ghost use Rattle.sv_effect.specs.declared.reads.Ask.{Ask as AskValue};
-ghost use Rattle.sv_effect.specs.declared.reads.Halt.TheVariants as halt;
+ghost use Rattle.sv_effect.specs.Asked.{Asked};
 ghost use Rattle.sv_effect.specs.Follows.{Follows};
 ghost use Rattle.sv_check.specs.Bounds.{LeftBounded};
 ghost use Rattle.sv_check.specs.Least.{lesser, IsOwn, LeastAmong, LeastBroken, is_touched, walks};
@@ -46,13 +45,9 @@ fn least_among<R: Rows>(
     requires accepted { AcceptedSchema (schema_of app.now.tables.items) }
     requires rows { R.is_of rows.old (schema_of app.now.tables.items) }
     requires bounded { LeftBounded (schema_of app.now.tables.items) 0 left.now }
-    ensures followed { IfOk result (λ found. Follows (R.tables rows.old) (R.tables rows.new) (R.noted rows.old) (R.noted rows.new)
+    ensures followed { IfOk result (λ found. Follows (R.face rows.old) (R.face rows.new) (R.noted rows.old) (R.noted rows.new)
         (LeastAmong (schema_of app.now.tables.items) left.now table (rule_of inv.now.body) keys.now found)) }
-    ensures same_app { (schema : List Declaration) → R.is_of rows.old schema → R.is_of rows.new schema }
-    ensures same_tables { R.tables rows.new ≡ R.tables rows.old }
-    ensures same_knows { R.knows rows.new ≡ R.knows rows.old }
-    ensures same_rest { R.rest rows.new ≡ R.rest rows.old }
-    ensures missing { (a : AskValue) → result ≡ Err (halt.Missing a) → R.knows rows.old a ≡ false }
+    ensures asked { Asked R.stays R.face rows.old rows.new result }
 {
     let mut found = None;
     for key in keys {
@@ -99,13 +94,9 @@ pub fn least_broken<R: Rows>(
     requires accepted { AcceptedSchema (schema_of app.now.tables.items) }
     requires rows { R.is_of rows.old (schema_of app.now.tables.items) }
     requires bounded { LeftBounded (schema_of app.now.tables.items) 0 left.now }
-    ensures followed { IfOk result (λ found. Follows (R.tables rows.old) (R.tables rows.new) (R.noted rows.old) (R.noted rows.new)
+    ensures followed { IfOk result (λ found. Follows (R.face rows.old) (R.face rows.new) (R.noted rows.old) (R.noted rows.new)
         (LeastBroken (schema_of app.now.tables.items) left.now table (rule_of inv.now.body) found)) }
-    ensures same_app { (schema : List Declaration) → R.is_of rows.old schema → R.is_of rows.new schema }
-    ensures same_tables { R.tables rows.new ≡ R.tables rows.old }
-    ensures same_knows { R.knows rows.new ≡ R.knows rows.old }
-    ensures same_rest { R.rest rows.new ≡ R.rest rows.old }
-    ensures missing { (a : AskValue) → result ≡ Err (halt.Missing a) → R.knows rows.old a ≡ false }
+    ensures asked { Asked R.stays R.face rows.old rows.new result }
 {
     match &inv.body {
         InvBody::Unique { col } => {

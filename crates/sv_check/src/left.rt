@@ -1,11 +1,10 @@
 //! Rows that changes left, and what stands at a place after the changes.
 
-ghost use Rattle.std.specs.Prelude.{◌≡◌, ◌≤◌, ℕ, IfOk, Err, false, List};
+ghost use Rattle.std.specs.Prelude.{◌≡◌, ◌≤◌, ℕ, IfOk, List};
 ghost use Rattle.std.specs.FinMap.{get};
 ghost use Rattle.sv_app.specs.Schema.{Declaration};
 ghost use Rattle.sv_app.specs.Tables.{Tables};
-ghost use Rattle.sv_effect.specs.declared.reads.Ask.{Ask as AskValue};
-ghost use Rattle.sv_effect.specs.declared.reads.Halt.TheVariants as halt;
+ghost use Rattle.sv_effect.specs.Asked.{Asked};
 ghost use Rattle.sv_effect.specs.Follows.{Follows};
 ghost use Rattle.sv_effect.specs.Reads.{seen_of};
 ghost use Rattle.sv_effect.specs.TablesOfCut.{is_place};
@@ -84,13 +83,9 @@ pub fn look<R: Rows>(
     rows: &mut R,
     place: &Place,
 ) -> Result<Option<LeftRow>, Halt>
-    ensures followed { IfOk result (λ row. Follows (R.tables rows.old) (R.tables rows.new) (R.noted rows.old) (R.noted rows.new) (λ t. get (over left.now t) place.now ≡ left_rows row)) }
+    ensures followed { IfOk result (λ row. Follows (R.face rows.old) (R.face rows.new) (R.noted rows.old) (R.noted rows.new) (λ t. get (over left.now t) place.now ≡ left_rows row)) }
     ensures bounded { IfOk result (λ row. (schema : List Declaration) (writes : ℕ) → writes ≤ 1024 → R.is_of rows.old schema → LeftBounded schema writes left.now → IsBounded schema writes place.now (left_rows row)) }
-    ensures same_app { (schema : List Declaration) → R.is_of rows.old schema → R.is_of rows.new schema }
-    ensures same_tables { R.tables rows.new ≡ R.tables rows.old }
-    ensures same_knows { R.knows rows.new ≡ R.knows rows.old }
-    ensures same_rest { R.rest rows.new ≡ R.rest rows.old }
-    ensures missing { (a : AskValue) → result ≡ Err (halt.Missing a) → R.knows rows.old a ≡ false }
+    ensures asked { Asked R.stays R.face rows.old rows.new result }
 {
     match left_at(left, place) {
         Some(row) => {

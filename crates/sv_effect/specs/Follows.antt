@@ -3,6 +3,7 @@
 use Rattle.std.specs.Prelude.{◌≡◌, List, ◌++◌, Option, MatchOption}
 use Rattle.std.specs.Option.{option_map}
 use Rattle.sv_app.specs.Tables.{Tables}
+use Rattle.sv_effect.specs.Faces.{Face}
 use Rattle.sv_effect.specs.Reads.{ReadValue}
 use Rattle.sv_effect.specs.Agrees.{Agrees}
 
@@ -14,9 +15,9 @@ noted_more reads noted = option_map (λ earlier. earlier ++ reads) noted
 abbrev pub TableAgrees : Option Tables → List ReadValue → Type 0
 TableAgrees told reads = MatchOption told (Unit {0}) (λ t. Agrees t reads)
 
-pub record Follows (told_before told_now : Option Tables) (before now : Option (List ReadValue)) (Fact : Tables → Type 0) : Type 0 where
+pub record Follows (face_before face_now : Face) (before now : Option (List ReadValue)) (Fact : Tables → Type 0) : Type 0 where
   pub reads : List ReadValue
-  pub same : told_now ≡ told_before
+  pub same : face_now ≡ face_before
   pub noted : now ≡ noted_more reads before
-  pub honest : TableAgrees told_before reads
+  pub honest : TableAgrees face_before.tables reads
   pub holds : (t : Tables) → Agrees t reads → Fact t

@@ -1,10 +1,12 @@
 pub mod Acts
 pub mod Agrees
 pub mod Applied
+pub mod Asked
 pub mod BareTables
 pub mod Commutes
 pub mod Cut
 pub mod Effects
+pub mod Faces
 pub mod Fits
 pub mod Follows
 pub mod Initial

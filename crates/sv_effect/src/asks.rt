@@ -7,6 +7,7 @@ ghost use Rattle.sv_effect.specs.declared.reads.Ask.TheVariants as ask;
 ghost use Rattle.sv_effect.specs.declared.reads.Halt.TheVariants as halt;
 ghost use Rattle.sv_effect.specs.Reads.{seen_of};
 ghost use Rattle.sv_effect.specs.Agrees.{key_behind, place_at, seen_at, is_after, IsNextKey};
+ghost use Rattle.sv_effect.specs.Asked.{Asked};
 ghost use Rattle.sv_effect.specs.Follows.{Follows};
 ghost use Rattle.sv_effect.specs.RowsFit.{KeyIsOf, SeenFits};
 
@@ -17,14 +18,11 @@ use sv_value::Key;
 /// Asks for the row of that key.
 #[tactic(auto, using(crate::proofs::FollowLaws::row_told))]
 pub fn ask_row<R: Rows>(rows: &mut R, table: u16, key: &Key) -> Result<Seen, Halt>
-    ensures followed { IfOk result (λ seen. Follows (R.tables rows.old) (R.tables rows.new) (R.noted rows.old) (R.noted rows.new) (λ t. seen_at t (place_at table key.now) ≡ seen_of seen)) }
+    ensures followed { IfOk result (λ seen. Follows (R.face rows.old) (R.face rows.new) (R.noted rows.old) (R.noted rows.new) (λ t. seen_at t (place_at table key.now) ≡ seen_of seen)) }
     ensures fits { IfOk result (λ seen. (schema : List Declaration) → R.is_of rows.old schema → SeenFits schema (place_at table key.now) (seen_of seen)) }
-    ensures same_app { (schema : List Declaration) → R.is_of rows.old schema → R.is_of rows.new schema }
-    ensures same_tables { R.tables rows.new ≡ R.tables rows.old }
-    ensures same_knows { R.knows rows.new ≡ R.knows rows.old }
-    ensures same_rest { R.rest rows.new ≡ R.rest rows.old }
+    ensures asked { Asked R.stays R.face rows.old rows.new result }
     ensures stands { OnErr result (R.noted rows.new ≡ R.noted rows.old) }
-    ensures missing { (a : AskValue) → result ≡ Err (halt.Missing a) → (a ≡ ask.Row table key.now) × (R.knows rows.old a ≡ false) }
+    ensures missing { (a : AskValue) → result ≡ Err (halt.Missing a) → a ≡ ask.Row table key.now }
     ensures memory { result ≡ Err halt.NoMemory → R.takes_memory rows.old ≡ true }
 {
     rows.row(table, key)
@@ -33,16 +31,13 @@ pub fn ask_row<R: Rows>(rows: &mut R, table: u16, key: &Key) -> Result<Seen, Hal
 /// Asks for the least key after that one, or of all, whose row is present.
 #[tactic(auto, using(crate::proofs::FollowLaws::key_told))]
 pub fn ask_next<R: Rows>(rows: &mut R, table: u16, after: Option<&Key>) -> Result<Option<Key>, Halt>
-    ensures followed { IfOk result (λ next. Follows (R.tables rows.old) (R.tables rows.new) (R.noted rows.old) (R.noted rows.new) (λ t. IsNextKey t table (key_behind after.entry) next)) }
+    ensures followed { IfOk result (λ next. Follows (R.face rows.old) (R.face rows.new) (R.noted rows.old) (R.noted rows.new) (λ t. IsNextKey t table (key_behind after.entry) next)) }
     ensures fits { IfOk result (λ next. IfSome next (λ key. (schema : List Declaration) → R.is_of rows.old schema → KeyIsOf schema (place_at table key))) }
     ensures rises { IfOk result (λ next. IfSome next (λ key. is_after (key_behind after.entry) key ≡ true)) }
-    ensures falls { IfOk result (λ next. IfSome next (λ key. R.rest rows.old table (Some key) < R.rest rows.old table (key_behind after.entry))) }
-    ensures same_app { (schema : List Declaration) → R.is_of rows.old schema → R.is_of rows.new schema }
-    ensures same_tables { R.tables rows.new ≡ R.tables rows.old }
-    ensures same_knows { R.knows rows.new ≡ R.knows rows.old }
-    ensures same_rest { R.rest rows.new ≡ R.rest rows.old }
+    ensures falls { IfOk result (λ next. IfSome next (λ key. (R.face rows.old).rest table (Some key) < (R.face rows.old).rest table (key_behind after.entry))) }
+    ensures asked { Asked R.stays R.face rows.old rows.new result }
     ensures stands { OnErr result (R.noted rows.new ≡ R.noted rows.old) }
-    ensures missing { (a : AskValue) → result ≡ Err (halt.Missing a) → (a ≡ ask.Next table (key_behind after.entry)) × (R.knows rows.old a ≡ false) }
+    ensures missing { (a : AskValue) → result ≡ Err (halt.Missing a) → a ≡ ask.Next table (key_behind after.entry) }
     ensures memory { result ≡ Err halt.NoMemory → R.takes_memory rows.old ≡ true }
 {
     rows.next(table, after)

@@ -18,7 +18,7 @@ pub use changes::apply_row;
 pub use laws::{
     any_sequence, fitting_kept, greatest_is, newer_wins, one_more, unthreatened_commute,
 };
-pub use noted::Noted;
+pub use noted::{Noted, Reads};
 pub use ops::{Need, Op, RowEffect, Write};
 pub use outcomes::{Outcome, Ran};
 pub use reads::{Ask, Halt, Read, Seen, Told};

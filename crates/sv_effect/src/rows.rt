@@ -1,12 +1,12 @@
 ghost use Rattle.std.specs.Prelude.{◌≡◌, ◌↔◌, ℕ, ◌<◌, ◌≤◌, ◌+◌, Bool, true, false, List, ◌∷◌, [], Option, Some, Err, IfOk, IfSome, OnErr, MatchOption};
-ghost use Rattle.sv_value.specs.declared.values.Key.{Key as KeyValue};
 ghost use Rattle.sv_app.specs.Schema.{Declaration, schema_of};
-ghost use Rattle.sv_app.specs.Tables.{Tables};
 ghost use Rattle.sv_effect.specs.declared.reads.Ask.{Ask as AskValue};
 ghost use Rattle.sv_effect.specs.declared.reads.Ask.TheVariants as ask;
 ghost use Rattle.sv_effect.specs.declared.reads.Halt.TheVariants as halt;
 ghost use Rattle.sv_effect.specs.Reads.{ReadValue, IsRow, IsKey, seen_of};
 ghost use Rattle.sv_effect.specs.Agrees.{key_behind, place_at, seen_at, is_after, IsNextKey};
+ghost use Rattle.sv_effect.specs.Asked.{Asked, StaysLaws};
+ghost use Rattle.sv_effect.specs.Faces.{Face};
 ghost use Rattle.sv_effect.specs.Follows.{noted_more};
 ghost use Rattle.sv_effect.specs.RowsFit.{KeyIsOf, SeenFits, TablesAreOf};
 ghost use Rattle.sv_effect.specs.StampedTables.{StampedTables};
@@ -25,14 +25,11 @@ pub trait Rows {
     /// The rows are of the application with these tables.
     ghost is_of: { Self → List Declaration → Type 0 };
 
-    /// The tables behind the rows, where they are told.
-    ghost tables: { Self → Option Tables };
+    /// What the rows show of themselves.
+    ghost face: { Self → Face };
 
-    /// Whether the ask can be answered.
-    ghost knows: { Self → AskValue → Bool };
-
-    /// A number that falls from each key of a table to the next.
-    ghost rest: { Self → ℕ → Option KeyValue → ℕ };
+    /// What a call leaves, whatever came of it: the rows before and after it.
+    ghost stays: { Self → Self → Type 0 };
 
     /// The reads so far, where they are noted.
     ghost noted: { Self → Option (List ReadValue) };
@@ -42,33 +39,29 @@ pub trait Rows {
 
     /// The row of that key.
     fn row(&mut self, table: u16, key: &Key) -> Result<Seen, Halt>
-        ensures same_app { (schema : List Declaration) → is_of self.old schema → is_of self.new schema }
-        ensures same_tables { tables self.new ≡ tables self.old }
-        ensures same_knows { knows self.new ≡ knows self.old }
-        ensures same_rest { rest self.new ≡ rest self.old }
-        ensures by_tables { IfOk result (λ seen. MatchOption (tables self.old) (Unit {0}) (λ t. seen_at t (place_at table key.now) ≡ seen_of seen)) }
+        ensures asked { Asked stays face self.old self.new result }
+        ensures by_tables { IfOk result (λ seen. MatchOption (face self.old).tables (Unit {0}) (λ t. seen_at t (place_at table key.now) ≡ seen_of seen)) }
         ensures fits { IfOk result (λ seen. (schema : List Declaration) → is_of self.old schema → SeenFits schema (place_at table key.now) (seen_of seen)) }
         ensures noted { IfOk result (λ seen. noted self.new ≡ noted_more (record { ask = ask.Row table key.now; answer = IsRow (seen_of seen) } ∷ []) (noted self.old)) }
         ensures stands { OnErr result (noted self.new ≡ noted self.old) }
-        ensures missing { (a : AskValue) → result ≡ Err (halt.Missing a) → (a ≡ ask.Row table key.now) × (knows self.old a ≡ false) }
-        ensures known { IfOk result (λ seen. knows self.old (ask.Row table key.now) ≡ true) }
+        ensures missing { (a : AskValue) → result ≡ Err (halt.Missing a) → a ≡ ask.Row table key.now }
+        ensures known { IfOk result (λ seen. (face self.old).knows (ask.Row table key.now) ≡ true) }
         ensures memory { result ≡ Err halt.NoMemory → takes_memory self.old ≡ true };
 
     /// The least key after that one, or of all, whose row is present.
     fn next(&mut self, table: u16, after: Option<&Key>) -> Result<Option<Key>, Halt>
-        ensures same_app { (schema : List Declaration) → is_of self.old schema → is_of self.new schema }
-        ensures same_tables { tables self.new ≡ tables self.old }
-        ensures same_knows { knows self.new ≡ knows self.old }
-        ensures same_rest { rest self.new ≡ rest self.old }
-        ensures by_tables { IfOk result (λ next. MatchOption (tables self.old) (Unit {0}) (λ t. IsNextKey t table (key_behind after.entry) next)) }
+        ensures asked { Asked stays face self.old self.new result }
+        ensures by_tables { IfOk result (λ next. MatchOption (face self.old).tables (Unit {0}) (λ t. IsNextKey t table (key_behind after.entry) next)) }
         ensures fits { IfOk result (λ next. IfSome next (λ key. (schema : List Declaration) → is_of self.old schema → KeyIsOf schema (place_at table key))) }
         ensures rises { IfOk result (λ next. IfSome next (λ key. is_after (key_behind after.entry) key ≡ true)) }
-        ensures falls { IfOk result (λ next. IfSome next (λ key. rest self.old table (Some key) < rest self.old table (key_behind after.entry))) }
+        ensures falls { IfOk result (λ next. IfSome next (λ key. (face self.old).rest table (Some key) < (face self.old).rest table (key_behind after.entry))) }
         ensures noted { IfOk result (λ next. noted self.new ≡ noted_more (record { ask = ask.Next table (key_behind after.entry); answer = IsKey next } ∷ []) (noted self.old)) }
         ensures stands { OnErr result (noted self.new ≡ noted self.old) }
-        ensures missing { (a : AskValue) → result ≡ Err (halt.Missing a) → (a ≡ ask.Next table (key_behind after.entry)) × (knows self.old a ≡ false) }
-        ensures known { IfOk result (λ next. knows self.old (ask.Next table (key_behind after.entry)) ≡ true) }
+        ensures missing { (a : AskValue) → result ≡ Err (halt.Missing a) → a ≡ ask.Next table (key_behind after.entry) }
+        ensures known { IfOk result (λ next. (face self.old).knows (ask.Next table (key_behind after.entry)) ≡ true) }
         ensures memory { result ≡ Err halt.NoMemory → takes_memory self.old ≡ true };
+
+    ghost stays_laws: { StaysLaws is_of face stays };
 }
 
 /// Rows that can be changed by operations. They tell their tables, with their stamps, and know the answer to every ask.
@@ -88,7 +81,7 @@ pub trait RowStore: Rows {
     fn next_after(&self, table: u16, after: Option<&Key>) -> Option<Key>
         ensures value { IsNextKey (bare (stamped self.now)) table (key_behind after.entry) result }
         ensures fits { IfSome result (λ key. (schema : List Declaration) → Self.is_of self.now schema → KeyIsOf schema (place_at table key)) }
-        ensures falls { IfSome result (λ key. Self.rest self.now table (Some key) < Self.rest self.now table (key_behind after.entry)) };
+        ensures falls { IfSome result (λ key. (Self.face self.now).rest table (Some key) < (Self.face self.now).rest table (key_behind after.entry)) };
 
     /// How many further rows fit.
     fn room(&self) -> u32
@@ -112,9 +105,11 @@ pub trait RowStore: Rows {
 
     ghost of_app: { (s : Self) (schema : List Declaration) → Self.is_of s schema ↔ TablesAreOf schema (stamped s) };
 
-    ghost tells: { (s : Self) → Self.tables s ≡ Some (bare (stamped s)) };
+    ghost tells: { (s : Self) → (Self.face s).tables ≡ Some (bare (stamped s)) };
 
-    ghost knows_all: { (s : Self) (a : AskValue) → Self.knows s a ≡ true };
+    ghost knows_all: { (s : Self) (a : AskValue) → (Self.face s).knows a ≡ true };
+
+    ghost stays_whole: { (a b : Self) → Self.stays a b → b ≡ a };
 
     ghost never_short: { (s : Self) → Self.takes_memory s ≡ false };
 }

@@ -13,6 +13,7 @@ use Rattle.sv_app.specs.declared.places.Place.{Place}
 use Rattle.sv_app.specs.Tables.{place_cmp, Row, Tables}
 use Rattle.sv_app.proofs.PlaceLaws.{place_total}
 use Rattle.sv_effect.specs.Agrees.{place_at, seen_in, is_present, is_after, IsNextKey}
+use Rattle.sv_effect.specs.Faces.{Face}
 use Rattle.sv_effect.specs.Follows.{Follows}
 use Rattle.sv_effect.specs.Reads.{ReadValue}
 use Rattle.sv_effect.specs.Run.{keys_among, present_keys}
@@ -181,15 +182,15 @@ walk_keys t table ks h =
     (λ k a. ap (λ o. (seen_in o).present) (sym (get-entries t (place_at table k)))) (keys_walk table (entries t) (entries_sorted t)))
 
 -- Keys were walked from one to the next up to a key, and put at the end: a walk that goes on from that key is one with them before it.
-pub record WalkedTo (told_before told_now : Option Tables) (before now : Option (List ReadValue)) (table : ℕ) (after to : Option Key) (old new : List Key) : Type 0 where
+pub record WalkedTo (face_before face_now : Face) (before now : Option (List ReadValue)) (table : ℕ) (after to : Option Key) (old new : List Key) : Type 0 where
   pub keys : List Key
   pub grown : new ≡ old ++ keys
-  pub ran : Follows told_before told_now before now (λ t. (more : List Key) → Walks (is_present t table) to more → Walks (is_present t table) after (keys ++ more))
+  pub ran : Follows face_before face_now before now (λ t. (more : List Key) → Walks (is_present t table) to more → Walks (is_present t table) after (keys ++ more))
 
-pub walk_starts : (o n : Option Tables) (a b : Option (List ReadValue)) (table : ℕ) (after : Option Key) (old new : List Key) → n ≡ o → b ≡ a → new ≡ old → WalkedTo o n a b table after after old new
+pub walk_starts : (o n : Face) (a b : Option (List ReadValue)) (table : ℕ) (after : Option Key) (old new : List Key) → n ≡ o → b ≡ a → new ≡ old → WalkedTo o n a b table after after old new
 walk_starts o n a b table after old new same stands e = record { keys = []; grown = e ∙ sym (append-nil old); ran = follow.quiet o n a b _ same stands (λ t more walk. walk) }
 
-pub walk_goes : (o m n : Option Tables) (a b c : Option (List ReadValue)) (table : ℕ) (after to next : Option Key) (k : Key) (old mid new : List Key)
+pub walk_goes : (o m n : Face) (a b c : Option (List ReadValue)) (table : ℕ) (after to next : Option Key) (k : Key) (old mid new : List Key)
     → WalkedTo o m a b table after to old mid → Follows m n b c (λ t. IsNextKey t table to next) → next ≡ Some k → new ≡ mid ++ k ∷ [] → WalkedTo o n a c table after (Some k) old new
 walk_goes o m n a b c table after to next k old mid new g f e i = record {
   keys = g.keys ++ k ∷ [];
@@ -198,7 +199,7 @@ walk_goes o m n a b c table after to next k old mid new g f e i = record {
       subst (Walks (is_present t table) after) (sym (append_assoc g.keys (k ∷ []) more)) (walked (k ∷ more) (subst (λ x. IsNextKey t table to x) e is, walk)));
 }
 
-pub walk_ends : (o m n : Option Tables) (a b c : Option (List ReadValue)) (table : ℕ) (after to next : Option Key) (old new : List Key)
+pub walk_ends : (o m n : Face) (a b c : Option (List ReadValue)) (table : ℕ) (after to next : Option Key) (old new : List Key)
     → WalkedTo o m a b table after to old new → Follows m n b c (λ t. IsNextKey t table to next) → next ≡ None → Walked o n a c table after old new
 walk_ends o m n a b c table after to next old new g f e = record {
   keys = g.keys;

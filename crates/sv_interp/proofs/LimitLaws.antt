@@ -1,5 +1,5 @@
 -- Accepted applications keep the limits of a run: their tables have few columns, and their transactions few loops.
-use Rattle.std.proofs.Common.{◌≡◌, ◌<◌, ◌≤◌, ◌∙◌, ℕ, zero, suc, List, [], ◌∷◌, ◌++◌, length, map, Option, Some, None, slice_get, refl, sym, ap, subst, arith, length-append}
+use Rattle.std.proofs.Common.{◌≡◌, ◌<◌, ◌≤◌, ◌∙◌, ℕ, zero, suc, List, [], ◌∷◌, length, Option, Some, None, slice_get, refl, sym, ap, subst, arith, length-append}
 use Rattle.std.proofs.lemmas.List.{length-map}
 use Rattle.std.proofs.lemmas.List.Elements.{All-head, All-tail}
 use Rattle.std.specs.Borrow.{Bor}
@@ -12,7 +12,7 @@ use Rattle.sv_app.specs.Schema.{Declaration, declaration_of}
 use Rattle.sv_app.specs.Statements.{inner_statements, block_statements}
 use Rattle.sv_app.specs.Trees.{Command, Declare, Assign, Fetch, Choose, ForRows, ForEach, Insert, Update, Remove, Abort, Reply, Block, Finish, Then, Transaction}
 use Rattle.sv_app.specs.TxnConditions.{IsSmallTxn}
-use Rattle.sv_app.specs.Units.{Loop, command_loops, block_loops, loop_variables}
+use Rattle.sv_app.specs.Units.{command_loops, block_loops, loop_variables}
 use Rattle.sv_effect.specs.Run.{body_of}
 use Rattle.sv_interp.specs.Limits.{AreNarrow}
 use Rattle.sv_interp.specs.Machine.{declared}

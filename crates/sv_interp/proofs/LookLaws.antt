@@ -7,6 +7,7 @@ use Rattle.sv_app.specs.Schema.{Declaration}
 use Rattle.sv_app.specs.Tables.{Row, Tables}
 use Rattle.sv_app.proofs.PlaceLaws.{place_total}
 use Rattle.sv_effect.specs.Agrees.{place_at, seen_in, seen_at}
+use Rattle.sv_effect.specs.Faces.{Face}
 use Rattle.sv_effect.specs.Follows.{Follows}
 use Rattle.sv_effect.specs.Reads.{SeenValue, ReadValue}
 use Rattle.sv_effect.specs.RowsFit.{RowFits, SeenFits}
@@ -29,12 +30,12 @@ told_back None = refl
 told_back (Some row) = refl
 
 -- the run wrote the row itself
-pub look_own : (o n : Option Tables) (a b : Option (List ReadValue)) (own : List (Place × OwnRow)) (p : Place) (found : Row) (row : Option OwnRow)
+pub look_own : (o n : Face) (a b : Option (List ReadValue)) (own : List (Place × OwnRow)) (p : Place) (found : Row) (row : Option OwnRow)
     → n ≡ o → b ≡ a → ((t : Tables) → get (over own t) p ≡ Some found) → own_rows row ≡ Some found → Follows o n a b (λ t. get (over own t) p ≡ own_rows row)
 look_own o n a b own p found row same stands h e = quiet o n a b _ same stands (λ t. h t ∙ sym e)
 
 -- the row behind is asked for
-pub look_behind : (o n : Option Tables) (a b : Option (List ReadValue)) (own : List (Place × OwnRow)) (p : Place) (seen : SeenValue) (row : Option OwnRow)
+pub look_behind : (o n : Face) (a b : Option (List ReadValue)) (own : List (Place × OwnRow)) (p : Place) (seen : SeenValue) (row : Option OwnRow)
     → Follows o n a b (λ t. seen_at t (place_at p.table p.key) ≡ seen) → ((t : Tables) → get (over own t) p ≡ get t p) → own_rows row ≡ told_row seen
     → Follows o n a b (λ t. get (over own t) p ≡ own_rows row)
 look_behind o n a b own p seen row f h e = so o n a b _ _ f (λ t g. h t ∙ sym (told_back (get t p)) ∙ ap told_row g ∙ sym e)

@@ -12,13 +12,14 @@ use Rattle.sv_app.specs.Tables.{Tables}
 use Rattle.sv_app.specs.Trees.{Block, Transaction}
 use Rattle.sv_app.specs.Units.{loop_variables}
 use Rattle.sv_effect.specs.declared.outcomes.Outcome.{Outcome}
+use Rattle.sv_effect.specs.declared.outcomes.Outcome.TheVariants.{Done, Abort, NoRow, Exists, Range, TooLarge}
 use Rattle.sv_effect.specs.declared.outcomes.Ran.{Ran}
 use Rattle.sv_effect.specs.Run.{Goes, Ends, body_of, started, result_of, ran_of}
 use Rattle.sv_effect.specs.RunChanges.{Effect, effect_of}
 use Rattle.sv_interp.specs.declared.states.State.{State}
 use Rattle.sv_interp.specs.Machine.{stand}
 use Rattle.sv_interp.specs.Keeping.{calm, IsSettingOf, Statements, Keeps}
-use Rattle.sv_interp.specs.Results.{IsRunnable, IsBodyOf, RunFits}
+use Rattle.sv_interp.specs.Results.{IsRunnable, IsBodyOf, RunFits, IsEmpty, IsEmptyAfter}
 use Rattle.sv_effect.specs.Fits.{EffectFits}
 use Rattle.sv_trace.specs.Standing.{Frame, BlockIn, Holds, Passes}
 use Rattle.sv_trace.proofs.ChangeLaws.{all_fit}
@@ -62,3 +63,11 @@ body_fits is_of schema txns request txn tables body args ran run same_schema sam
       same_body = sym (same_body ∙ ap body_of run.among);
       same_args = sym same_args;
     }) is
+
+pub empty_after : (outcome : Outcome) (ran : Ran) → IsEmpty ran → IsEmptyAfter outcome ran
+empty_after (Done replies) ran is = tt
+empty_after (Abort number) ran is = is
+empty_after NoRow ran is = is
+empty_after Exists ran is = is
+empty_after Range ran is = is
+empty_after TooLarge ran is = is

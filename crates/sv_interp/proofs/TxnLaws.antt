@@ -6,6 +6,7 @@ use Rattle.sv_app.specs.Tables.{Tables}
 use Rattle.sv_app.specs.Trees.{Block}
 use Rattle.sv_app.specs.Units.{loop_variables}
 use Rattle.sv_effect.specs.declared.outcomes.Outcome.{Outcome}
+use Rattle.sv_effect.specs.Faces.{Face}
 use Rattle.sv_effect.specs.Follows.{Follows}
 use Rattle.sv_effect.specs.Reads.{ReadValue}
 use Rattle.sv_effect.specs.Run.{Goes, Ends, run_block, started, result_of, run_body, RunResult}
@@ -14,19 +15,19 @@ use Rattle.sv_interp.specs.declared.states.State.{State}
 use Rattle.sv_interp.specs.Machine.{stand, flow_of, Runs}
 
 -- what the flow of a run makes of it
-made : (schema : List Declaration) (loops ls : List ℕ) (body : Block) (args : List Arg) (o n : Option Tables) (a b : Option (List ReadValue)) (s : State) (end : Option Outcome) (s' : State) (ran : RunResult)
+made : (schema : List Declaration) (loops ls : List ℕ) (body : Block) (args : List Arg) (o n : Face) (a b : Option (List ReadValue)) (s : State) (end : Option Outcome) (s' : State) (ran : RunResult)
     → ls ≡ loop_variables body → ((t : Tables) → stand t s ≡ started args t) → Runs (run_block (record { schema = schema; arguments = args; loops = ls }) body) o n a b s end s'
     → ((t : Tables) → result_of schema (flow_of end (stand t s')) ≡ ran) → Follows o n a b (λ t. run_body schema body args t ≡ ran)
 made schema loops ls body args o n a b s end s' ran e begins g h =
     follow.so o n a b _ _ g.ran (λ t x. ap (λ l. result_of schema (run_block (record { schema = schema; arguments = args; loops = l }) body (started args t))) (sym e)
     ∙ ap (λ st. result_of schema (run_block (record { schema = schema; arguments = args; loops = ls }) body st)) (sym (begins t)) ∙ ap (result_of schema) x ∙ h t)
 
-pub made_whole : (schema : List Declaration) (ls : List ℕ) (body : Block) (args : List Arg) (o n : Option Tables) (a b : Option (List ReadValue)) (s : State) (end : Option Outcome) (s' : State) (ran : RunResult)
+pub made_whole : (schema : List Declaration) (ls : List ℕ) (body : Block) (args : List Arg) (o n : Face) (a b : Option (List ReadValue)) (s : State) (end : Option Outcome) (s' : State) (ran : RunResult)
     → ls ≡ loop_variables body → ((t : Tables) → stand t s ≡ started args t) → Runs (run_block (record { schema = schema; arguments = args; loops = ls }) body) o n a b s end s'
     → end ≡ None → ((t : Tables) → result_of schema (Goes (stand t s')) ≡ ran) → Follows o n a b (λ t. run_body schema body args t ≡ ran)
 made_whole schema ls body args o n a b s end s' ran e begins g z h = made schema ls ls body args o n a b s end s' ran e begins g (λ t. ap (λ d. result_of schema (flow_of d (stand t s'))) z ∙ h t)
 
-pub made_ended : (schema : List Declaration) (ls : List ℕ) (body : Block) (args : List Arg) (o n : Option Tables) (a b : Option (List ReadValue)) (s : State) (end : Option Outcome) (s' : State) (outcome : Outcome) (ran : RunResult)
+pub made_ended : (schema : List Declaration) (ls : List ℕ) (body : Block) (args : List Arg) (o n : Face) (a b : Option (List ReadValue)) (s : State) (end : Option Outcome) (s' : State) (outcome : Outcome) (ran : RunResult)
     → ls ≡ loop_variables body → ((t : Tables) → stand t s ≡ started args t) → Runs (run_block (record { schema = schema; arguments = args; loops = ls }) body) o n a b s end s'
     → end ≡ Some outcome → ((schema : List Declaration) → result_of schema (Ends outcome) ≡ ran) → Follows o n a b (λ t. run_body schema body args t ≡ ran)
 made_ended schema ls body args o n a b s end s' outcome ran e begins g z h = made schema ls ls body args o n a b s end s' ran e begins g (λ t. ap (λ d. result_of schema (flow_of d (stand t s'))) z ∙ h schema)

@@ -7,8 +7,8 @@ use Rattle.std.specs.declared.cmp.Ordering.TheVariants.{Less, Equal, Greater}
 use Rattle.sv_value.specs.declared.values.Key.{Key}
 use Rattle.sv_value.specs.Orders.{key_cmp}
 use Rattle.sv_app.specs.declared.places.Place.{Place}
-use Rattle.sv_app.specs.Tables.{Tables}
 use Rattle.sv_effect.specs.Agrees.{is_after, is_present}
+use Rattle.sv_effect.specs.Faces.{Face}
 use Rattle.sv_effect.specs.Follows.{Follows}
 use Rattle.sv_effect.specs.Reads.{ReadValue}
 use Rattle.sv_interp.specs.declared.states.OwnRow.{OwnRow}
@@ -23,10 +23,10 @@ Walks p after [] = IsNextBy p after None
 Walks p after (k ∷ ks) = IsNextBy p after (Some k) × Walks p (Some k) ks
 
 -- Keys were walked from one to the next up to the last, and put at the end.
-pub record Walked (told_before told_now : Option Tables) (before now : Option (List ReadValue)) (table : ℕ) (after : Option Key) (old new : List Key) : Type 0 where
+pub record Walked (face_before face_now : Face) (before now : Option (List ReadValue)) (table : ℕ) (after : Option Key) (old new : List Key) : Type 0 where
   pub keys : List Key
   pub grown : new ≡ old ++ keys
-  pub ran : Follows told_before told_now before now (λ t. Walks (is_present t table) after keys)
+  pub ran : Follows face_before face_now before now (λ t. Walks (is_present t table) after keys)
 
 -- keys in order, with one of them and without it
 abbrev pub with_by : Ordering → Key → Key → List Key → List Key → List Key

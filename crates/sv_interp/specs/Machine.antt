@@ -9,6 +9,7 @@ use Rattle.sv_app.specs.Tables.{Row, Tables}
 use Rattle.sv_app.specs.declared.txns.Stmt.{Stmt}
 use Rattle.sv_app.specs.Trees.{Block, Finish, Then, command_of, block_of}
 use Rattle.sv_effect.specs.declared.outcomes.Outcome.{Outcome}
+use Rattle.sv_effect.specs.Faces.{Face}
 use Rattle.sv_effect.specs.Follows.{Follows}
 use Rattle.sv_effect.specs.Reads.{SeenValue, ReadValue}
 use Rattle.sv_effect.specs.Run as run
@@ -82,8 +83,8 @@ abbrev pub setting_of : Setting → run.Setting
 setting_of g = record { schema = schema_of g.tables.now; arguments = g.args.now; loops = g.loops.now }
 
 -- What a step did between two moments, with the rows and with the state: it is what the meaning does, of all tables that agree with the answers given.
-pub record Runs (meaning : Stand → Flow) (told_before told_now : Option Tables) (before now : Option (List ReadValue)) (s : State) (end : Option Outcome) (s' : State) : Type 0 where
-  pub ran : Follows told_before told_now before now (λ t. meaning (stand t s) ≡ flow_of end (stand t s'))
+pub record Runs (meaning : Stand → Flow) (face_before face_now : Face) (before now : Option (List ReadValue)) (s : State) (end : Option Outcome) (s' : State) : Type 0 where
+  pub ran : Follows face_before face_now before now (λ t. meaning (stand t s) ≡ flow_of end (stand t s'))
 
 -- a block by its first command and the others
 abbrev pub Splits : Block → Option (Bor Stmt × Bor (List Stmt)) → Type 0
@@ -99,5 +100,5 @@ abbrev pub looping : {A : Type 0} → List A → (A → Stand → Flow) → Bloc
 looping xs turn body st = then_do (turns xs turn st) (left_loop body)
 
 -- Some turns were made, and the others are left.
-pub record Reaches {A : Type 0} (xs left : List A) (turn : A → Stand → Flow) (told_before told_now : Option Tables) (before now : Option (List ReadValue)) (s s' : State) : Type 0 where
-  pub ran : Follows told_before told_now before now (λ t. turns xs turn (stand t s) ≡ turns left turn (stand t s'))
+pub record Reaches {A : Type 0} (xs left : List A) (turn : A → Stand → Flow) (face_before face_now : Face) (before now : Option (List ReadValue)) (s s' : State) : Type 0 where
+  pub ran : Follows face_before face_now before now (λ t. turns xs turn (stand t s) ≡ turns left turn (stand t s'))

@@ -1,5 +1,5 @@
 -- What the result of a run is like, whatever the rows answer.
-use Rattle.std.specs.Prelude.{◌≡◌, ◌≤◌, List, length, Some, slice_get}
+use Rattle.std.specs.Prelude.{◌≡◌, ◌≤◌, ℕ, List, [], length, Some, slice_get}
 use Rattle.std.specs.List.{All}
 use Rattle.sv_app.specs.declared.requests.Arg.{Arg}
 use Rattle.sv_app.specs.declared.requests.Request.{Request}
@@ -8,9 +8,15 @@ use Rattle.sv_app.specs.Fitting.{ArgsFit}
 use Rattle.sv_app.specs.Schema.{Declaration}
 use Rattle.sv_app.specs.Shaped.{Shaped}
 use Rattle.sv_app.specs.Trees.{Block, Transaction}
+use Rattle.sv_effect.specs.declared.outcomes.Outcome.{Outcome}
+use Rattle.sv_effect.specs.declared.outcomes.Outcome.TheVariants.{Done, Abort, NoRow, Exists, Range, TooLarge}
 use Rattle.sv_effect.specs.declared.outcomes.Ran.{Ran}
 use Rattle.sv_effect.specs.Fits.{AllFit}
 use Rattle.sv_trace.specs.Standing.{Frame, IsFrame}
+
+-- the request for the transaction of that number, with these arguments
+abbrev pub request_of : ℕ → List Arg → Request
+request_of txn args = record { txn = txn; args = args }
 
 -- the application is accepted, the request is for that transaction of it, and its arguments fit
 pub record IsRunnable (schema : List Declaration) (txns : List Transaction) (request : Request) (txn : Transaction) : Type 0 where
@@ -30,3 +36,21 @@ pub record RunFits (schema : List Declaration) (txn : Transaction) (ran : Ran) :
   pub shaped : All (Shaped schema txn) ran.trace
   pub changes : AllFit schema ran.effects
   pub few : length ran.effects ≤ 64
+
+-- nothing was changed, needed or begun
+pub record IsEmpty (ran : Ran) : Type 0 where
+  pub effects : ran.effects ≡ []
+  pub needs : ran.needs ≡ []
+  pub trace : ran.trace ≡ []
+
+abbrev pub IsEmptyAfter : Outcome → Ran → Type 0
+IsEmptyAfter (Done replies) ran = Unit {0}
+IsEmptyAfter (Abort number) ran = IsEmpty ran
+IsEmptyAfter NoRow ran = IsEmpty ran
+IsEmptyAfter Exists ran = IsEmpty ran
+IsEmptyAfter Range ran = IsEmpty ran
+IsEmptyAfter TooLarge ran = IsEmpty ran
+
+-- a run that isn't done leaves nothing but its outcome
+abbrev pub IsEmptyUnlessDone : Ran → Type 0
+IsEmptyUnlessDone ran = IsEmptyAfter ran.outcome ran

@@ -1,10 +1,8 @@
-ghost use Rattle.std.specs.Prelude.{◌≡◌, ◌++◌, [], IfOk, OnOk, Err, false, List as Items};
+ghost use Rattle.std.specs.Prelude.{◌≡◌, ◌++◌, [], IfOk, OnOk};
 ghost use Rattle.std.specs.FinMap.{get};
 ghost use Rattle.std.specs.Option.{option_map};
-ghost use Rattle.sv_app.specs.Schema.{Declaration};
 ghost use Rattle.sv_app.specs.Trees.{test_of};
-ghost use Rattle.sv_effect.specs.declared.reads.Ask.{Ask as AskValue};
-ghost use Rattle.sv_effect.specs.declared.reads.Halt.TheVariants as halt;
+ghost use Rattle.sv_effect.specs.Asked.{Asked};
 ghost use Rattle.sv_effect.specs.Follows.{Follows};
 ghost use Rattle.sv_effect.specs.Run.{with_row, values_at, kept_if, meeting_test, meeting, only, present_keys};
 ghost use Rattle.sv_effect.specs.RunValues.{truth_of};
@@ -31,11 +29,8 @@ fn present<R: Rows>(
     table: u16,
     rows: &mut R,
 ) -> Result<List<Key>, Halt>
-    ensures followed { IfOk result (λ keys. Follows (R.tables rows.old) (R.tables rows.new) (R.noted rows.old) (R.noted rows.new) (λ t. keys ≡ present_keys (over own.now t) table)) }
-    ensures same_app { (schema : Items Declaration) → R.is_of rows.old schema → R.is_of rows.new schema }
-    ensures same_tables { R.tables rows.new ≡ R.tables rows.old }
-    ensures same_knows { R.knows rows.new ≡ R.knows rows.old }
-    ensures missing { (a : AskValue) → result ≡ Err (halt.Missing a) → R.knows rows.old a ≡ false }
+    ensures followed { IfOk result (λ keys. Follows (R.face rows.old) (R.face rows.new) (R.noted rows.old) (R.noted rows.new) (λ t. keys ≡ present_keys (over own.now t) table)) }
+    ensures asked { Asked R.stays R.face rows.old rows.new result }
 {
     let mut keys = List::new(alloc);
     walk(&mut keys, rows, table)?;
@@ -64,12 +59,9 @@ fn meets<R: Rows>(
     scope: &mut Scope,
     rows: &mut R,
 ) -> Result<Option<bool>, Halt>
-    ensures followed { IfOk result (λ holds. Follows (R.tables rows.old) (R.tables rows.new) (R.noted rows.old) (R.noted rows.new)
+    ensures followed { IfOk result (λ holds. Follows (R.face rows.old) (R.face rows.new) (R.noted rows.old) (R.noted rows.new)
         (λ t. truth_of (test_of test.now) (with_row row (values_at (get (over own.now t) place.now)) (scope_of scope.old)) ≡ evaluated holds scope.new)) }
-    ensures same_app { (schema : Items Declaration) → R.is_of rows.old schema → R.is_of rows.new schema }
-    ensures same_tables { R.tables rows.new ≡ R.tables rows.old }
-    ensures same_knows { R.knows rows.new ≡ R.knows rows.old }
-    ensures missing { (a : AskValue) → result ≡ Err (halt.Missing a) → R.knows rows.old a ≡ false }
+    ensures asked { Asked R.stays R.face rows.old rows.new result }
 {
     let found = look(alloc, own, rows, place)?;
     let values = values_of(alloc, found);
@@ -100,12 +92,9 @@ fn meet<R: Rows>(
     scope: &mut Scope,
     rows: &mut R,
 ) -> Result<Option<List<Key>>, Halt>
-    ensures followed { IfOk result (λ met. Follows (R.tables rows.old) (R.tables rows.new) (R.noted rows.old) (R.noted rows.new)
+    ensures followed { IfOk result (λ met. Follows (R.face rows.old) (R.face rows.new) (R.noted rows.old) (R.noted rows.new)
         (λ t. meeting_test row table (test_of test.now) (over own.now t) keys.now (scope_of scope.old) ≡ evaluated met scope.new)) }
-    ensures same_app { (schema : Items Declaration) → R.is_of rows.old schema → R.is_of rows.new schema }
-    ensures same_tables { R.tables rows.new ≡ R.tables rows.old }
-    ensures same_knows { R.knows rows.new ≡ R.knows rows.old }
-    ensures missing { (a : AskValue) → result ≡ Err (halt.Missing a) → R.knows rows.old a ≡ false }
+    ensures asked { Asked R.stays R.face rows.old rows.new result }
 {
     let mut met = List::new(alloc);
     for key in keys {
@@ -129,12 +118,9 @@ pub fn met_keys<R: Rows>(
     scope: Scope,
     rows: &mut R,
 ) -> Result<Option<List<Key>>, Halt>
-    ensures followed { IfOk result (λ keys. Follows (R.tables rows.old) (R.tables rows.new) (R.noted rows.old) (R.noted rows.new)
+    ensures followed { IfOk result (λ keys. Follows (R.face rows.old) (R.face rows.new) (R.noted rows.old) (R.noted rows.new)
         (λ t. only (meeting row table (option_map test_of cond.now) (over own.now t) (present_keys (over own.now t) table) (scope_of scope)) ≡ keys)) }
-    ensures same_app { (schema : Items Declaration) → R.is_of rows.old schema → R.is_of rows.new schema }
-    ensures same_tables { R.tables rows.new ≡ R.tables rows.old }
-    ensures same_knows { R.knows rows.new ≡ R.knows rows.old }
-    ensures missing { (a : AskValue) → result ≡ Err (halt.Missing a) → R.knows rows.old a ≡ false }
+    ensures asked { Asked R.stays R.face rows.old rows.new result }
 {
     let keys = present(alloc, own, table, rows)?;
     match cond {

@@ -20,4 +20,4 @@ mod walks;
 mod writes;
 
 pub use sv_effect::{Outcome, Ran};
-pub use txns::run_txn;
+pub use txns::{run_noted, run_txn};

@@ -1,10 +1,9 @@
-ghost use Rattle.std.specs.Prelude.{◌≡◌, IfOk, OnErr, Err, false, List, Option};
+ghost use Rattle.std.specs.Prelude.{◌≡◌, IfOk, OnErr, List, Option};
 ghost use Rattle.std.specs.FinMap.{get, empty};
 ghost use Rattle.sv_app.specs.declared.places.Place.{Place as PlaceValue};
 ghost use Rattle.sv_app.specs.Schema.{Declaration};
 ghost use Rattle.sv_app.specs.Tables.{Tables};
-ghost use Rattle.sv_effect.specs.declared.reads.Ask.{Ask as AskValue};
-ghost use Rattle.sv_effect.specs.declared.reads.Halt.TheVariants as halt;
+ghost use Rattle.sv_effect.specs.Asked.{Asked};
 ghost use Rattle.sv_effect.specs.Follows.{Follows};
 ghost use Rattle.sv_effect.specs.Reads.{seen_of};
 ghost use Rattle.sv_effect.specs.TablesOfCut.{is_place};
@@ -78,13 +77,9 @@ pub fn look<R: Rows>(
     rows: &mut R,
     place: &Place,
 ) -> Result<Option<OwnRow>, Halt>
-    ensures followed { IfOk result (λ row. Follows (R.tables rows.old) (R.tables rows.new) (R.noted rows.old) (R.noted rows.new) (λ t. get (over own.now t) place.now ≡ own_rows row)) }
+    ensures followed { IfOk result (λ row. Follows (R.face rows.old) (R.face rows.new) (R.noted rows.old) (R.noted rows.new) (λ t. get (over own.now t) place.now ≡ own_rows row)) }
     ensures fits { IfOk result (λ row. (schema : List Declaration) → R.is_of rows.old schema → AreFit schema (over own.now empty) → RowAt schema place.now (own_rows row)) }
-    ensures same_app { (schema : List Declaration) → R.is_of rows.old schema → R.is_of rows.new schema }
-    ensures same_tables { R.tables rows.new ≡ R.tables rows.old }
-    ensures same_knows { R.knows rows.new ≡ R.knows rows.old }
-    ensures same_rest { R.rest rows.new ≡ R.rest rows.old }
-    ensures missing { (a : AskValue) → result ≡ Err (halt.Missing a) → R.knows rows.old a ≡ false }
+    ensures asked { Asked R.stays R.face rows.old rows.new result }
 {
     match written(own, place) {
         Some(row) => {

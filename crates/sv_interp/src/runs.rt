@@ -1,11 +1,9 @@
-ghost use Rattle.std.specs.Prelude.{◌≡◌, ◌≤◌, ◌∷◌, [], length, IfOk, Err, false, List};
+ghost use Rattle.std.specs.Prelude.{◌≡◌, ◌≤◌, ◌∷◌, [], length, IfOk, List};
 ghost use Rattle.std.specs.Option.{option_map};
-ghost use Rattle.sv_app.specs.Schema.{Declaration};
 ghost use Rattle.sv_app.specs.Tables.{Tables};
 ghost use Rattle.sv_app.specs.Trees.{command_of, block_of, test_of, Choose, ForRows, ForEach};
 ghost use Rattle.sv_app.specs.Units.{unit_of};
-ghost use Rattle.sv_effect.specs.declared.reads.Ask.{Ask as AskValue};
-ghost use Rattle.sv_effect.specs.declared.reads.Halt.TheVariants as halt;
+ghost use Rattle.sv_effect.specs.Asked.{Asked};
 ghost use Rattle.sv_effect.specs.Run.{run_command, run_block, turns, row_turn, item_turn};
 ghost use Rattle.sv_interp.specs.Keeping.{Statements, Statement, Turn, RowTurns, ItemTurns, RowLoop, ItemLoop, Keeps};
 ghost use Rattle.sv_interp.specs.Machine.{progress_of, stand, flow_of, setting_of, Runs, Reaches, closing, looping};
@@ -36,12 +34,9 @@ pub fn run_all<R: Rows>(
     state: &mut State,
     rows: &mut R,
 ) -> Result<Option<Outcome>, Halt>
-    ensures ran { IfOk result (λ end. Runs (run_block (setting_of setting.now) (block_of stmts.now)) (R.tables rows.old) (R.tables rows.new) (R.noted rows.old) (R.noted rows.new) state.old end state.new) }
+    ensures ran { IfOk result (λ end. Runs (run_block (setting_of setting.now) (block_of stmts.now)) (R.face rows.old) (R.face rows.new) (R.noted rows.old) (R.noted rows.new) state.old end state.new) }
     ensures kept { IfOk result (λ end. Keeps (R.is_of rows.old) (setting_of setting.now) (Statements (block_of stmts.now)) state.old end state.new) }
-    ensures same_app { (schema : List Declaration) → R.is_of rows.old schema → R.is_of rows.new schema }
-    ensures same_tables { R.tables rows.new ≡ R.tables rows.old }
-    ensures same_knows { R.knows rows.new ≡ R.knows rows.old }
-    ensures missing { (a : AskValue) → result ≡ Err (halt.Missing a) → R.knows rows.old a ≡ false }
+    ensures asked { Asked R.stays R.face rows.old rows.new result }
 {
     match split(stmts) {
         None => Ok(None),
@@ -64,12 +59,9 @@ fn run_one<R: Rows>(
     state: &mut State,
     rows: &mut R,
 ) -> Result<Option<Outcome>, Halt>
-    ensures ran { IfOk result (λ end. Runs (run_command (setting_of setting.now) (command_of stmt.now)) (R.tables rows.old) (R.tables rows.new) (R.noted rows.old) (R.noted rows.new) state.old end state.new) }
+    ensures ran { IfOk result (λ end. Runs (run_command (setting_of setting.now) (command_of stmt.now)) (R.face rows.old) (R.face rows.new) (R.noted rows.old) (R.noted rows.new) state.old end state.new) }
     ensures kept { IfOk result (λ end. Keeps (R.is_of rows.old) (setting_of setting.now) (Statement (command_of stmt.now)) state.old end state.new) }
-    ensures same_app { (schema : List Declaration) → R.is_of rows.old schema → R.is_of rows.new schema }
-    ensures same_tables { R.tables rows.new ≡ R.tables rows.old }
-    ensures same_knows { R.knows rows.new ≡ R.knows rows.old }
-    ensures missing { (a : AskValue) → result ≡ Err (halt.Missing a) → R.knows rows.old a ≡ false }
+    ensures asked { Asked R.stays R.face rows.old rows.new result }
 {
     match parts_of(stmt) {
         Parts::Let { var, value } => {
@@ -135,12 +127,9 @@ fn run_if<R: Rows>(
     state: &mut State,
     rows: &mut R,
 ) -> Result<Option<Outcome>, Halt>
-    ensures ran { IfOk result (λ end. Runs (run_command (setting_of setting.now) (Choose (test_of cond.now) (block_of yes.now) (block_of no.now))) (R.tables rows.old) (R.tables rows.new) (R.noted rows.old) (R.noted rows.new) state.old end state.new) }
+    ensures ran { IfOk result (λ end. Runs (run_command (setting_of setting.now) (Choose (test_of cond.now) (block_of yes.now) (block_of no.now))) (R.face rows.old) (R.face rows.new) (R.noted rows.old) (R.noted rows.new) state.old end state.new) }
     ensures kept { IfOk result (λ end. Keeps (R.is_of rows.old) (setting_of setting.now) (Statement (Choose (test_of cond.now) (block_of yes.now) (block_of no.now))) state.old end state.new) }
-    ensures same_app { (schema : List Declaration) → R.is_of rows.old schema → R.is_of rows.new schema }
-    ensures same_tables { R.tables rows.new ≡ R.tables rows.old }
-    ensures same_knows { R.knows rows.new ≡ R.knows rows.old }
-    ensures missing { (a : AskValue) → result ≡ Err (halt.Missing a) → R.knows rows.old a ≡ false }
+    ensures asked { Asked R.stays R.face rows.old rows.new result }
 {
     let Some(holds) = truth(cond, &mut state.scope)? else {
         return Ok(Some(Outcome::Range));
@@ -165,12 +154,9 @@ fn run_turn<R: Rows>(
     state: &mut State,
     rows: &mut R,
 ) -> Result<Option<Outcome>, Halt>
-    ensures ran { IfOk result (λ end. Runs (closing (progress_of outer) (run_block (setting_of setting.now) (block_of body.now))) (R.tables rows.old) (R.tables rows.new) (R.noted rows.old) (R.noted rows.new) state.old end state.new) }
+    ensures ran { IfOk result (λ end. Runs (closing (progress_of outer) (run_block (setting_of setting.now) (block_of body.now))) (R.face rows.old) (R.face rows.new) (R.noted rows.old) (R.noted rows.new) state.old end state.new) }
     ensures kept { IfOk result (λ end. Keeps (R.is_of rows.old) (setting_of setting.now) (Turn (block_of body.now) (progress_of outer)) state.old end state.new) }
-    ensures same_app { (schema : List Declaration) → R.is_of rows.old schema → R.is_of rows.new schema }
-    ensures same_tables { R.tables rows.new ≡ R.tables rows.old }
-    ensures same_knows { R.knows rows.new ≡ R.knows rows.old }
-    ensures missing { (a : AskValue) → result ≡ Err (halt.Missing a) → R.knows rows.old a ≡ false }
+    ensures asked { Asked R.stays R.face rows.old rows.new result }
 {
     match run_all(alloc, setting, body, state, rows)? {
         Some(end) => Ok(Some(end)),
@@ -193,12 +179,9 @@ fn run_item<R: Rows>(
     state: &mut State,
     rows: &mut R,
 ) -> Result<Option<Outcome>, Halt>
-    ensures ran { IfOk result (λ end. Runs (item_turn unit var (run_block (setting_of setting.now) (block_of body.now)) val.now) (R.tables rows.old) (R.tables rows.new) (R.noted rows.old) (R.noted rows.new) state.old end state.new) }
+    ensures ran { IfOk result (λ end. Runs (item_turn unit var (run_block (setting_of setting.now) (block_of body.now)) val.now) (R.face rows.old) (R.face rows.new) (R.noted rows.old) (R.noted rows.new) state.old end state.new) }
     ensures kept { IfOk result (λ end. Keeps (R.is_of rows.old) (setting_of setting.now) (ItemTurns unit var (val.now ∷ []) (block_of body.now)) state.old end state.new) }
-    ensures same_app { (schema : List Declaration) → R.is_of rows.old schema → R.is_of rows.new schema }
-    ensures same_tables { R.tables rows.new ≡ R.tables rows.old }
-    ensures same_knows { R.knows rows.new ≡ R.knows rows.old }
-    ensures missing { (a : AskValue) → result ≡ Err (halt.Missing a) → R.knows rows.old a ≡ false }
+    ensures asked { Asked R.stays R.face rows.old rows.new result }
 {
     let outer = state.begin(alloc, unit)?;
     put_value(&mut state.scope.values, var, val)?;
@@ -219,12 +202,9 @@ fn run_row<R: Rows>(
     state: &mut State,
     rows: &mut R,
 ) -> Result<Option<Outcome>, Halt>
-    ensures ran { IfOk result (λ end. Runs (row_turn unit row table (run_block (setting_of setting.now) (block_of body.now)) key.now) (R.tables rows.old) (R.tables rows.new) (R.noted rows.old) (R.noted rows.new) state.old end state.new) }
+    ensures ran { IfOk result (λ end. Runs (row_turn unit row table (run_block (setting_of setting.now) (block_of body.now)) key.now) (R.face rows.old) (R.face rows.new) (R.noted rows.old) (R.noted rows.new) state.old end state.new) }
     ensures kept { IfOk result (λ end. Keeps (R.is_of rows.old) (setting_of setting.now) (RowTurns unit row table (block_of body.now)) state.old end state.new) }
-    ensures same_app { (schema : List Declaration) → R.is_of rows.old schema → R.is_of rows.new schema }
-    ensures same_tables { R.tables rows.new ≡ R.tables rows.old }
-    ensures same_knows { R.knows rows.new ≡ R.knows rows.old }
-    ensures missing { (a : AskValue) → result ≡ Err (halt.Missing a) → R.knows rows.old a ≡ false }
+    ensures asked { Asked R.stays R.face rows.old rows.new result }
 {
     let place = Place { table, key: *key };
     match look(alloc, &state.own, rows, &place)? {
@@ -253,12 +233,9 @@ fn run_items<R: Rows>(
     state: &mut State,
     rows: &mut R,
 ) -> Result<Option<Outcome>, Halt>
-    ensures ran { IfOk result (λ end. Runs (turns vals.now (item_turn unit var (run_block (setting_of setting.now) (block_of body.now)))) (R.tables rows.old) (R.tables rows.new) (R.noted rows.old) (R.noted rows.new) state.old end state.new) }
+    ensures ran { IfOk result (λ end. Runs (turns vals.now (item_turn unit var (run_block (setting_of setting.now) (block_of body.now)))) (R.face rows.old) (R.face rows.new) (R.noted rows.old) (R.noted rows.new) state.old end state.new) }
     ensures kept { IfOk result (λ end. Keeps (R.is_of rows.old) (setting_of setting.now) (ItemTurns unit var vals.now (block_of body.now)) state.old end state.new) }
-    ensures same_app { (schema : List Declaration) → R.is_of rows.old schema → R.is_of rows.new schema }
-    ensures same_tables { R.tables rows.new ≡ R.tables rows.old }
-    ensures same_knows { R.knows rows.new ≡ R.knows rows.old }
-    ensures missing { (a : AskValue) → result ≡ Err (halt.Missing a) → R.knows rows.old a ≡ false }
+    ensures asked { Asked R.stays R.face rows.old rows.new result }
 {
     for val in vals {
         match run_item(alloc, setting, unit, var, val, body, state, rows)? {
@@ -282,12 +259,9 @@ fn run_rows<R: Rows>(
     state: &mut State,
     rows: &mut R,
 ) -> Result<Option<Outcome>, Halt>
-    ensures ran { IfOk result (λ end. Runs (turns keys.now (row_turn unit row table (run_block (setting_of setting.now) (block_of body.now)))) (R.tables rows.old) (R.tables rows.new) (R.noted rows.old) (R.noted rows.new) state.old end state.new) }
+    ensures ran { IfOk result (λ end. Runs (turns keys.now (row_turn unit row table (run_block (setting_of setting.now) (block_of body.now)))) (R.face rows.old) (R.face rows.new) (R.noted rows.old) (R.noted rows.new) state.old end state.new) }
     ensures kept { IfOk result (λ end. Keeps (R.is_of rows.old) (setting_of setting.now) (RowTurns unit row table (block_of body.now)) state.old end state.new) }
-    ensures same_app { (schema : List Declaration) → R.is_of rows.old schema → R.is_of rows.new schema }
-    ensures same_tables { R.tables rows.new ≡ R.tables rows.old }
-    ensures same_knows { R.knows rows.new ≡ R.knows rows.old }
-    ensures missing { (a : AskValue) → result ≡ Err (halt.Missing a) → R.knows rows.old a ≡ false }
+    ensures asked { Asked R.stays R.face rows.old rows.new result }
 {
     for key in keys {
         match run_row(alloc, setting, unit, row, table, key, body, state, rows)? {
@@ -310,12 +284,9 @@ fn loop_items<R: Rows>(
     state: &mut State,
     rows: &mut R,
 ) -> Result<Option<Outcome>, Halt>
-    ensures ran { IfOk result (λ end. Runs (looping vals.now (item_turn unit var (run_block (setting_of setting.now) (block_of body.now))) (block_of body.now)) (R.tables rows.old) (R.tables rows.new) (R.noted rows.old) (R.noted rows.new) state.old end state.new) }
+    ensures ran { IfOk result (λ end. Runs (looping vals.now (item_turn unit var (run_block (setting_of setting.now) (block_of body.now))) (block_of body.now)) (R.face rows.old) (R.face rows.new) (R.noted rows.old) (R.noted rows.new) state.old end state.new) }
     ensures kept { IfOk result (λ end. Keeps (R.is_of rows.old) (setting_of setting.now) (ItemLoop unit var vals.now (block_of body.now)) state.old end state.new) }
-    ensures same_app { (schema : List Declaration) → R.is_of rows.old schema → R.is_of rows.new schema }
-    ensures same_tables { R.tables rows.new ≡ R.tables rows.old }
-    ensures same_knows { R.knows rows.new ≡ R.knows rows.old }
-    ensures missing { (a : AskValue) → result ≡ Err (halt.Missing a) → R.knows rows.old a ≡ false }
+    ensures asked { Asked R.stays R.face rows.old rows.new result }
 {
     match run_items(alloc, setting, unit, var, vals, body, state, rows)? {
         Some(end) => Ok(Some(end)),
@@ -339,12 +310,9 @@ fn loop_rows<R: Rows>(
     state: &mut State,
     rows: &mut R,
 ) -> Result<Option<Outcome>, Halt>
-    ensures ran { IfOk result (λ end. Runs (looping keys.now (row_turn unit row table (run_block (setting_of setting.now) (block_of body.now))) (block_of body.now)) (R.tables rows.old) (R.tables rows.new) (R.noted rows.old) (R.noted rows.new) state.old end state.new) }
+    ensures ran { IfOk result (λ end. Runs (looping keys.now (row_turn unit row table (run_block (setting_of setting.now) (block_of body.now))) (block_of body.now)) (R.face rows.old) (R.face rows.new) (R.noted rows.old) (R.noted rows.new) state.old end state.new) }
     ensures kept { IfOk result (λ end. Keeps (R.is_of rows.old) (setting_of setting.now) (RowLoop unit row table (block_of body.now)) state.old end state.new) }
-    ensures same_app { (schema : List Declaration) → R.is_of rows.old schema → R.is_of rows.new schema }
-    ensures same_tables { R.tables rows.new ≡ R.tables rows.old }
-    ensures same_knows { R.knows rows.new ≡ R.knows rows.old }
-    ensures missing { (a : AskValue) → result ≡ Err (halt.Missing a) → R.knows rows.old a ≡ false }
+    ensures asked { Asked R.stays R.face rows.old rows.new result }
 {
     match run_rows(alloc, setting, unit, row, table, keys, body, state, rows)? {
         Some(end) => Ok(Some(end)),
@@ -366,12 +334,9 @@ fn run_each<R: Rows>(
     state: &mut State,
     rows: &mut R,
 ) -> Result<Option<Outcome>, Halt>
-    ensures ran { IfOk result (λ end. Runs (run_command (setting_of setting.now) (ForEach var list (block_of body.now))) (R.tables rows.old) (R.tables rows.new) (R.noted rows.old) (R.noted rows.new) state.old end state.new) }
+    ensures ran { IfOk result (λ end. Runs (run_command (setting_of setting.now) (ForEach var list (block_of body.now))) (R.face rows.old) (R.face rows.new) (R.noted rows.old) (R.noted rows.new) state.old end state.new) }
     ensures kept { IfOk result (λ end. Keeps (R.is_of rows.old) (setting_of setting.now) (Statement (ForEach var list (block_of body.now))) state.old end state.new) }
-    ensures same_app { (schema : List Declaration) → R.is_of rows.old schema → R.is_of rows.new schema }
-    ensures same_tables { R.tables rows.new ≡ R.tables rows.old }
-    ensures same_knows { R.knows rows.new ≡ R.knows rows.old }
-    ensures missing { (a : AskValue) → result ≡ Err (halt.Missing a) → R.knows rows.old a ≡ false }
+    ensures asked { Asked R.stays R.face rows.old rows.new result }
 {
     let vals = items_of(alloc, setting, list.num)?;
     let number = var.num;
@@ -401,12 +366,9 @@ fn run_for<R: Rows>(
     state: &mut State,
     rows: &mut R,
 ) -> Result<Option<Outcome>, Halt>
-    ensures ran { IfOk result (λ end. Runs (run_command (setting_of setting.now) (ForRows row table (option_map test_of cond.now) (block_of body.now))) (R.tables rows.old) (R.tables rows.new) (R.noted rows.old) (R.noted rows.new) state.old end state.new) }
+    ensures ran { IfOk result (λ end. Runs (run_command (setting_of setting.now) (ForRows row table (option_map test_of cond.now) (block_of body.now))) (R.face rows.old) (R.face rows.new) (R.noted rows.old) (R.noted rows.new) state.old end state.new) }
     ensures kept { IfOk result (λ end. Keeps (R.is_of rows.old) (setting_of setting.now) (Statement (ForRows row table (option_map test_of cond.now) (block_of body.now))) state.old end state.new) }
-    ensures same_app { (schema : List Declaration) → R.is_of rows.old schema → R.is_of rows.new schema }
-    ensures same_tables { R.tables rows.new ≡ R.tables rows.old }
-    ensures same_knows { R.knows rows.new ≡ R.knows rows.old }
-    ensures missing { (a : AskValue) → result ≡ Err (halt.Missing a) → R.knows rows.old a ≡ false }
+    ensures asked { Asked R.stays R.face rows.old rows.new result }
 {
     let bound = row.num;
     let number = table.num;

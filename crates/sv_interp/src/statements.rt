@@ -1,12 +1,11 @@
-ghost use Rattle.std.specs.Prelude.{◌≡◌, ◌≤◌, length, IfOk, IfSome, Err, false, List as Items, map, slice_get};
+ghost use Rattle.std.specs.Prelude.{◌≡◌, ◌≤◌, length, IfOk, IfSome, map, slice_get};
 ghost use Rattle.sv_value.specs.declared.values.Val.TheVariants.{Int};
 ghost use Rattle.std.specs.FinMap.{get};
-ghost use Rattle.sv_app.specs.Schema.{Declaration, declaration_of, schema_of};
+ghost use Rattle.sv_app.specs.Schema.{declaration_of, schema_of};
 ghost use Rattle.sv_app.specs.Tables.{Tables};
 ghost use Rattle.sv_app.specs.Trees.{term_of, terms_of, sets_of, Declare, Fetch, Insert, Update, Remove, Reply};
 ghost use Rattle.sv_app.specs.Units.{unit_of};
-ghost use Rattle.sv_effect.specs.declared.reads.Ask.{Ask as AskValue};
-ghost use Rattle.sv_effect.specs.declared.reads.Halt.TheVariants as halt;
+ghost use Rattle.sv_effect.specs.Asked.{Asked};
 ghost use Rattle.sv_effect.specs.Run.{items_of, run_command, on_present, inserted, updated, Setting as RunSetting};
 ghost use Rattle.sv_interp.specs.Keeping.{Statement, Keeps, LooksUp};
 ghost use Rattle.sv_interp.specs.Machine.{declared, stand, flow_of, setting_of, Runs};
@@ -55,12 +54,9 @@ pub fn run_get<R: Rows>(
     state: &mut State,
     rows: &mut R,
 ) -> Result<Option<Outcome>, Halt>
-    ensures ran { IfOk result (λ end. Runs (run_command (setting_of setting.now) (Fetch row table (terms_of key.now))) (R.tables rows.old) (R.tables rows.new) (R.noted rows.old) (R.noted rows.new) state.old end state.new) }
+    ensures ran { IfOk result (λ end. Runs (run_command (setting_of setting.now) (Fetch row table (terms_of key.now))) (R.face rows.old) (R.face rows.new) (R.noted rows.old) (R.noted rows.new) state.old end state.new) }
     ensures kept { IfOk result (λ end. Keeps (R.is_of rows.old) (setting_of setting.now) (Statement (Fetch row table (terms_of key.now))) state.old end state.new) }
-    ensures same_app { (schema : Items Declaration) → R.is_of rows.old schema → R.is_of rows.new schema }
-    ensures same_tables { R.tables rows.new ≡ R.tables rows.old }
-    ensures same_knows { R.knows rows.new ≡ R.knows rows.old }
-    ensures missing { (a : AskValue) → result ≡ Err (halt.Missing a) → R.knows rows.old a ≡ false }
+    ensures asked { Asked R.stays R.face rows.old rows.new result }
 {
     let Some(vals) = values(alloc, key, &mut state.scope)? else {
         return Ok(Some(Outcome::Range));
@@ -105,12 +101,9 @@ fn insert_at<R: Rows>(
     rows: &mut R,
 ) -> Result<Option<Outcome>, Halt>
     requires narrow { length (declaration_of table.now).columns ≤ 16 }
-    ensures ran { IfOk result (λ end. Runs (λ st. inserted (declaration_of table.now) place.now vals.now (get st.tables place.now) st) (R.tables rows.old) (R.tables rows.new) (R.noted rows.old) (R.noted rows.new) state.old end state.new) }
+    ensures ran { IfOk result (λ end. Runs (λ st. inserted (declaration_of table.now) place.now vals.now (get st.tables place.now) st) (R.face rows.old) (R.face rows.new) (R.noted rows.old) (R.noted rows.new) state.old end state.new) }
     ensures kept { IfOk result (λ end. LooksUp (R.is_of rows.old) place.now (λ row st. inserted (declaration_of table.now) place.now vals.now row st) state.old end state.new) }
-    ensures same_app { (schema : Items Declaration) → R.is_of rows.old schema → R.is_of rows.new schema }
-    ensures same_tables { R.tables rows.new ≡ R.tables rows.old }
-    ensures same_knows { R.knows rows.new ≡ R.knows rows.old }
-    ensures missing { (a : AskValue) → result ≡ Err (halt.Missing a) → R.knows rows.old a ≡ false }
+    ensures asked { Asked R.stays R.face rows.old rows.new result }
 {
     let found = look(alloc, &state.own, rows, place)?;
     let end = insert_row(alloc, table, place, vals, found, state)?;
@@ -127,12 +120,9 @@ pub fn run_insert<R: Rows>(
     state: &mut State,
     rows: &mut R,
 ) -> Result<Option<Outcome>, Halt>
-    ensures ran { IfOk result (λ end. Runs (run_command (setting_of setting.now) (Insert table (terms_of exprs.now))) (R.tables rows.old) (R.tables rows.new) (R.noted rows.old) (R.noted rows.new) state.old end state.new) }
+    ensures ran { IfOk result (λ end. Runs (run_command (setting_of setting.now) (Insert table (terms_of exprs.now))) (R.face rows.old) (R.face rows.new) (R.noted rows.old) (R.noted rows.new) state.old end state.new) }
     ensures kept { IfOk result (λ end. Keeps (R.is_of rows.old) (setting_of setting.now) (Statement (Insert table (terms_of exprs.now))) state.old end state.new) }
-    ensures same_app { (schema : Items Declaration) → R.is_of rows.old schema → R.is_of rows.new schema }
-    ensures same_tables { R.tables rows.new ≡ R.tables rows.old }
-    ensures same_knows { R.knows rows.new ≡ R.knows rows.old }
-    ensures missing { (a : AskValue) → result ≡ Err (halt.Missing a) → R.knows rows.old a ≡ false }
+    ensures asked { Asked R.stays R.face rows.old rows.new result }
 {
     let Some(vals) = values(alloc, exprs, &mut state.scope)? else {
         return Ok(Some(Outcome::Range));
@@ -158,12 +148,9 @@ fn update_at<R: Rows>(
     rows: &mut R,
 ) -> Result<Option<Outcome>, Halt>
     requires narrow { length (declaration_of table.now).columns ≤ 16 }
-    ensures ran { IfOk result (λ end. Runs (λ st. on_present (get st.tables place.now) (updated (declaration_of table.now) place.now (sets_of sets.now) st)) (R.tables rows.old) (R.tables rows.new) (R.noted rows.old) (R.noted rows.new) state.old end state.new) }
+    ensures ran { IfOk result (λ end. Runs (λ st. on_present (get st.tables place.now) (updated (declaration_of table.now) place.now (sets_of sets.now) st)) (R.face rows.old) (R.face rows.new) (R.noted rows.old) (R.noted rows.new) state.old end state.new) }
     ensures kept { IfOk result (λ end. LooksUp (R.is_of rows.old) place.now (λ row st. on_present row (updated (declaration_of table.now) place.now (sets_of sets.now) st)) state.old end state.new) }
-    ensures same_app { (schema : Items Declaration) → R.is_of rows.old schema → R.is_of rows.new schema }
-    ensures same_tables { R.tables rows.new ≡ R.tables rows.old }
-    ensures same_knows { R.knows rows.new ≡ R.knows rows.old }
-    ensures missing { (a : AskValue) → result ≡ Err (halt.Missing a) → R.knows rows.old a ≡ false }
+    ensures asked { Asked R.stays R.face rows.old rows.new result }
 {
     match look(alloc, &state.own, rows, place)? {
         None => Ok(Some(Outcome::NoRow)),
@@ -188,12 +175,9 @@ pub fn run_update<R: Rows>(
     state: &mut State,
     rows: &mut R,
 ) -> Result<Option<Outcome>, Halt>
-    ensures ran { IfOk result (λ end. Runs (run_command (setting_of setting.now) (Update table (terms_of key.now) (sets_of sets.now))) (R.tables rows.old) (R.tables rows.new) (R.noted rows.old) (R.noted rows.new) state.old end state.new) }
+    ensures ran { IfOk result (λ end. Runs (run_command (setting_of setting.now) (Update table (terms_of key.now) (sets_of sets.now))) (R.face rows.old) (R.face rows.new) (R.noted rows.old) (R.noted rows.new) state.old end state.new) }
     ensures kept { IfOk result (λ end. Keeps (R.is_of rows.old) (setting_of setting.now) (Statement (Update table (terms_of key.now) (sets_of sets.now))) state.old end state.new) }
-    ensures same_app { (schema : Items Declaration) → R.is_of rows.old schema → R.is_of rows.new schema }
-    ensures same_tables { R.tables rows.new ≡ R.tables rows.old }
-    ensures same_knows { R.knows rows.new ≡ R.knows rows.old }
-    ensures missing { (a : AskValue) → result ≡ Err (halt.Missing a) → R.knows rows.old a ≡ false }
+    ensures asked { Asked R.stays R.face rows.old rows.new result }
 {
     let Some(vals) = values(alloc, key, &mut state.scope)? else {
         return Ok(Some(Outcome::Range));
@@ -219,12 +203,9 @@ pub fn run_remove<R: Rows>(
     state: &mut State,
     rows: &mut R,
 ) -> Result<Option<Outcome>, Halt>
-    ensures ran { IfOk result (λ end. Runs (run_command (setting_of setting.now) (Remove table (terms_of key.now))) (R.tables rows.old) (R.tables rows.new) (R.noted rows.old) (R.noted rows.new) state.old end state.new) }
+    ensures ran { IfOk result (λ end. Runs (run_command (setting_of setting.now) (Remove table (terms_of key.now))) (R.face rows.old) (R.face rows.new) (R.noted rows.old) (R.noted rows.new) state.old end state.new) }
     ensures kept { IfOk result (λ end. Keeps (R.is_of rows.old) (setting_of setting.now) (Statement (Remove table (terms_of key.now))) state.old end state.new) }
-    ensures same_app { (schema : Items Declaration) → R.is_of rows.old schema → R.is_of rows.new schema }
-    ensures same_tables { R.tables rows.new ≡ R.tables rows.old }
-    ensures same_knows { R.knows rows.new ≡ R.knows rows.old }
-    ensures missing { (a : AskValue) → result ≡ Err (halt.Missing a) → R.knows rows.old a ≡ false }
+    ensures asked { Asked R.stays R.face rows.old rows.new result }
 {
     let Some(vals) = values(alloc, key, &mut state.scope)? else {
         return Ok(Some(Outcome::Range));

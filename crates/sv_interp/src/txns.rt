@@ -1,4 +1,4 @@
-ghost use Rattle.std.specs.Prelude.{◌≡◌, ◌<◌, ◌≤◌, ◌^◌, length, IfOk, Err, false, List as Items, map, slice_get};
+ghost use Rattle.std.specs.Prelude.{◌≡◌, ◌<◌, ◌≤◌, ◌^◌, length, IfOk, List as Items, map, slice_get};
 ghost use Rattle.std.specs.List.{All};
 ghost use Rattle.sv_app.specs.Accepted.{AcceptedApp};
 ghost use Rattle.sv_app.specs.Schema.{Declaration, schema_of};
@@ -6,13 +6,14 @@ ghost use Rattle.sv_app.specs.Tables.{Tables};
 ghost use Rattle.sv_app.specs.Shaped.{Shaped};
 ghost use Rattle.sv_app.specs.Trees.{Transaction, block_of, transactions_of};
 ghost use Rattle.sv_app.specs.Units.{loop_variables};
-ghost use Rattle.sv_effect.specs.declared.reads.Ask.{Ask as AskValue};
-ghost use Rattle.sv_effect.specs.declared.reads.Halt.TheVariants as halt;
 ghost use Rattle.sv_effect.specs.Fits.{AllFit};
-ghost use Rattle.sv_effect.specs.Follows.{Follows};
+ghost use Rattle.sv_effect.specs.Asked.{Asked};
+ghost use Rattle.sv_effect.specs.Follows.{Follows, TableAgrees};
+ghost use Rattle.sv_effect.specs.Agrees.{Agrees};
+ghost use Rattle.sv_effect.specs.Reads.{read_of};
 ghost use Rattle.sv_effect.specs.Run.{Goes, Ends, argument, body_of, started, result_of, run_body, run, ran_of};
 ghost use Rattle.sv_interp.specs.Machine.{stand};
-ghost use Rattle.sv_interp.specs.Results.{IsRunnable, IsBodyOf, RunFits};
+ghost use Rattle.sv_interp.specs.Results.{request_of, IsRunnable, IsBodyOf, RunFits, IsEmpty, IsEmptyUnlessDone};
 ghost use Rattle.sv_trace.specs.Standing.{Frame};
 
 use crate::loops::put_loops;
@@ -23,8 +24,8 @@ use crate::settings::Setting;
 use crate::slots::prepend;
 use crate::states::{State, beginning, instance_of};
 use std::alloc::Global;
-use sv_app::{App, Arg, Request, Stmt, Table};
-use sv_effect::{Halt, Outcome, Ran, Rows};
+use sv_app::{App, Arg, Stmt, Table};
+use sv_effect::{Halt, Noted, Outcome, Ran, Read, Rows};
 use sv_value::{List, NoMemory, Val};
 
 fn argument(arg: &Arg) -> Val
@@ -70,6 +71,7 @@ fn start(alloc: Global, args: &[Arg]) -> Result<State, NoMemory>
 fn finish(alloc: Global, tables: &[Table], state: State) -> Result<Ran, NoMemory>
     ensures result { IfOk result (λ ran. (t : Tables) → result_of (schema_of tables.now) (Goes (stand t state)) ≡ ran_of ran) }
     ensures instances { IfOk result (λ ran. length ran.trace < 2 ^ 32) }
+    ensures empty { IfOk result IsEmptyUnlessDone }
 {
     let State {
         scope,
@@ -95,6 +97,7 @@ fn finish(alloc: Global, tables: &[Table], state: State) -> Result<Ran, NoMemory
 fn ended(alloc: Global, outcome: Outcome) -> Ran
     ensures result { (schema : Items Declaration) → result_of schema (Ends outcome) ≡ ran_of result }
     ensures instances { length result.trace < 2 ^ 32 }
+    ensures empty { IsEmpty result }
 {
     Ran {
         outcome,
@@ -113,13 +116,11 @@ pub fn run_body<R: Rows>(
     rows: &mut R,
 ) -> Result<Ran, Halt>
     requires loops { setting.now.loops.now ≡ loop_variables (block_of body.now) }
-    ensures followed { IfOk result (λ ran. Follows (R.tables rows.old) (R.tables rows.new) (R.noted rows.old) (R.noted rows.new) (λ t. run_body (schema_of setting.now.tables.now) (block_of body.now) setting.now.args.now t ≡ ran_of ran)) }
-    ensures same_app { (schema : Items Declaration) → R.is_of rows.old schema → R.is_of rows.new schema }
-    ensures same_tables { R.tables rows.new ≡ R.tables rows.old }
-    ensures same_knows { R.knows rows.new ≡ R.knows rows.old }
-    ensures missing { (a : AskValue) → result ≡ Err (halt.Missing a) → R.knows rows.old a ≡ false }
+    ensures followed { IfOk result (λ ran. Follows (R.face rows.old) (R.face rows.new) (R.noted rows.old) (R.noted rows.new) (λ t. run_body (schema_of setting.now.tables.now) (block_of body.now) setting.now.args.now t ≡ ran_of ran)) }
+    ensures asked { Asked R.stays R.face rows.old rows.new result }
     ensures fits { IfOk result (λ ran. (f : Frame) → IsBodyOf f (schema_of setting.now.tables.now) (block_of body.now) setting.now.args.now → R.is_of rows.old f.schema → RunFits f.schema f.txn ran) }
     ensures instances { IfOk result (λ ran. length ran.trace < 2 ^ 32) }
+    ensures empty { IfOk result IsEmptyUnlessDone }
 {
     let mut state = start(alloc, setting.args)?;
     match run_all(alloc, setting, body, &mut state, rows)? {
@@ -144,38 +145,66 @@ fn body_of(app: &App, number: u16) -> &[Stmt]
     }
 }
 
-/// Runs the transaction of a request on rows that it asks for. What it comes to is what the run comes to on whole
-/// tables, on all tables that agree with what the rows answered; and it halts for a missing answer only where the rows
-/// don't know it. Whatever the rows answered, where they are of the application, this was accepted and the arguments
-/// fit, each instance of the trace is shaped, and there are at most 64 changes, each of which fits the schema. There
-/// are fewer than 2^32 instances.
+/// Runs the transaction of that number with these arguments, on rows that it asks for. What it comes to is what the run
+/// comes to on whole tables, on all tables that agree with what the rows answered; and it halts for a missing answer only
+/// where the rows don't know it. Whatever the rows answered, a run that isn't done has no changes, needs or instances;
+/// and where the rows are of the application, this was accepted and the arguments fit, each instance of the trace is
+/// shaped, and there are at most 64 changes, each of which fits the schema. There are fewer than 2^32 instances.
 pub fn run_txn<R: Rows>(
     alloc: Global,
     app: &App,
-    request: &Request,
+    txn: u16,
+    args: &[Arg],
     rows: &mut R,
 ) -> Result<Ran, Halt>
     requires accepted { AcceptedApp (schema_of app.now.tables.items) (transactions_of app.now.txns.items) }
-    ensures followed { IfOk result (λ ran. Follows (R.tables rows.old) (R.tables rows.new) (R.noted rows.old) (R.noted rows.new)
-        (λ t. run (schema_of app.now.tables.items) (transactions_of app.now.txns.items) request.now t ≡ ran_of ran)) }
-    ensures same_app { (schema : Items Declaration) → R.is_of rows.old schema → R.is_of rows.new schema }
-    ensures same_tables { R.tables rows.new ≡ R.tables rows.old }
-    ensures same_knows { R.knows rows.new ≡ R.knows rows.old }
-    ensures missing { (a : AskValue) → result ≡ Err (halt.Missing a) → R.knows rows.old a ≡ false }
-    ensures shaped { IfOk result (λ ran. (txn : Transaction) → IsRunnable (schema_of app.now.tables.items) (transactions_of app.now.txns.items) request.now txn
-        → R.is_of rows.old (schema_of app.now.tables.items) → All (Shaped (schema_of app.now.tables.items) txn) ran.trace) }
-    ensures fits { IfOk result (λ ran. (txn : Transaction) → IsRunnable (schema_of app.now.tables.items) (transactions_of app.now.txns.items) request.now txn
+    ensures followed { IfOk result (λ ran. Follows (R.face rows.old) (R.face rows.new) (R.noted rows.old) (R.noted rows.new)
+        (λ t. run (schema_of app.now.tables.items) (transactions_of app.now.txns.items) (request_of txn args.now) t ≡ ran_of ran)) }
+    ensures asked { Asked R.stays R.face rows.old rows.new result }
+    ensures empty { IfOk result IsEmptyUnlessDone }
+    ensures shaped { IfOk result (λ ran. (transaction : Transaction) → IsRunnable (schema_of app.now.tables.items) (transactions_of app.now.txns.items) (request_of txn args.now) transaction
+        → R.is_of rows.old (schema_of app.now.tables.items) → All (Shaped (schema_of app.now.tables.items) transaction) ran.trace) }
+    ensures fits { IfOk result (λ ran. (transaction : Transaction) → IsRunnable (schema_of app.now.tables.items) (transactions_of app.now.txns.items) (request_of txn args.now) transaction
         → R.is_of rows.old (schema_of app.now.tables.items) → AllFit (schema_of app.now.tables.items) ran.effects × (length ran.effects ≤ 64)) }
     ensures instances { IfOk result (λ ran. length ran.trace < 2 ^ 32) }
 {
-    let body = body_of(app, request.txn);
+    let body = body_of(app, txn);
     let mut loops = Vec::new(alloc);
     put_loops(&mut loops, body)?;
     let setting = Setting {
         tables: &app.tables,
-        args: request.args.items(),
+        args,
         loops: loops.as_slice(),
     };
     let ran = run_body(alloc, &setting, body, rows)?;
     Ok(ran)
+}
+
+/// Runs the transaction as `run_txn` does, and hands back what was read as well, in order: fewer than 2^32 reads. The
+/// rows' tables agree with it, where these are told, and on all tables that agree with it the run comes to that.
+pub fn run_noted<R: Rows>(
+    alloc: Global,
+    app: &App,
+    txn: u16,
+    args: &[Arg],
+    rows: &mut R,
+) -> Result<(Ran, Vec<Read>), Halt>
+    requires accepted { AcceptedApp (schema_of app.now.tables.items) (transactions_of app.now.txns.items) }
+    ensures ran { IfOk result (λ end. (t : Tables) → Agrees t (map read_of end.1.items)
+        → run (schema_of app.now.tables.items) (transactions_of app.now.txns.items) (request_of txn args.now) t ≡ ran_of end.0) }
+    ensures honest { IfOk result (λ end. TableAgrees (R.face rows.old).tables (map read_of end.1.items)) }
+    ensures few { IfOk result (λ end. length end.1.items < 2 ^ 32) }
+    ensures asked { Asked R.stays R.face rows.old rows.new result }
+    ensures empty { IfOk result (λ end. IsEmptyUnlessDone end.0) }
+    ensures shaped { IfOk result (λ end. (transaction : Transaction) → IsRunnable (schema_of app.now.tables.items) (transactions_of app.now.txns.items) (request_of txn args.now) transaction
+        → R.is_of rows.old (schema_of app.now.tables.items) → All (Shaped (schema_of app.now.tables.items) transaction) end.0.trace) }
+    ensures fits { IfOk result (λ end. (transaction : Transaction) → IsRunnable (schema_of app.now.tables.items) (transactions_of app.now.txns.items) (request_of txn args.now) transaction
+        → R.is_of rows.old (schema_of app.now.tables.items) → AllFit (schema_of app.now.tables.items) end.0.effects × (length end.0.effects ≤ 64)) }
+    ensures instances { IfOk result (λ end. length end.0.trace < 2 ^ 32) }
+{
+    let mut noted = Noted::new(alloc, rows);
+    let end = run_txn(alloc, app, txn, args, &mut noted);
+    let reads = noted.into_reads();
+    let ran = end?;
+    Ok((ran, reads))
 }

@@ -1,8 +1,6 @@
-ghost use Rattle.std.specs.Prelude.{◌≡◌, ◌<◌, IfOk, IfSome, OnOk, Err, Some, None, false, List as Items};
-ghost use Rattle.sv_app.specs.Schema.{Declaration};
-ghost use Rattle.sv_effect.specs.declared.reads.Ask.{Ask as AskValue};
-ghost use Rattle.sv_effect.specs.declared.reads.Halt.TheVariants as halt;
+ghost use Rattle.std.specs.Prelude.{◌≡◌, ◌<◌, IfOk, IfSome, OnOk, Some, None};
 ghost use Rattle.sv_effect.specs.Agrees.{IsNextKey};
+ghost use Rattle.sv_effect.specs.Asked.{Asked};
 ghost use Rattle.sv_effect.specs.Follows.{Follows};
 ghost use Rattle.sv_interp.specs.Keys.{Walked};
 
@@ -12,13 +10,9 @@ use sv_value::{Key, List};
 
 /// The key after that one, or the first.
 fn next_key<R: Rows>(table: u16, after: &Option<Key>, rows: &mut R) -> Result<Option<Key>, Halt>
-    ensures followed { IfOk result (λ next. Follows (R.tables rows.old) (R.tables rows.new) (R.noted rows.old) (R.noted rows.new) (λ t. IsNextKey t table after.now next)) }
-    ensures falls { IfOk result (λ next. IfSome next (λ key. R.rest rows.old table (Some key) < R.rest rows.old table after.now)) }
-    ensures same_app { (schema : Items Declaration) → R.is_of rows.old schema → R.is_of rows.new schema }
-    ensures same_tables { R.tables rows.new ≡ R.tables rows.old }
-    ensures same_knows { R.knows rows.new ≡ R.knows rows.old }
-    ensures same_rest { R.rest rows.new ≡ R.rest rows.old }
-    ensures missing { (a : AskValue) → result ≡ Err (halt.Missing a) → R.knows rows.old a ≡ false }
+    ensures followed { IfOk result (λ next. Follows (R.face rows.old) (R.face rows.new) (R.noted rows.old) (R.noted rows.new) (λ t. IsNextKey t table after.now next)) }
+    ensures falls { IfOk result (λ next. IfSome next (λ key. (R.face rows.old).rest table (Some key) < (R.face rows.old).rest table after.now)) }
+    ensures asked { Asked R.stays R.face rows.old rows.new result }
 {
     match after {
         Some(key) => ask_next(rows, table, Some(key)),
@@ -29,11 +23,8 @@ fn next_key<R: Rows>(table: u16, after: &Option<Key>, rows: &mut R) -> Result<Op
 /// Appends the keys of the present rows of a table, in order.
 #[tactic(auto, using(crate::proofs::KeyLaws::walking))]
 pub fn walk<R: Rows>(keys: &mut List<Key>, rows: &mut R, table: u16) -> Result<(), Halt>
-    ensures walked { OnOk result (Walked (R.tables rows.old) (R.tables rows.new) (R.noted rows.old) (R.noted rows.new) table None keys.old keys.new) }
-    ensures same_app { (schema : Items Declaration) → R.is_of rows.old schema → R.is_of rows.new schema }
-    ensures same_tables { R.tables rows.new ≡ R.tables rows.old }
-    ensures same_knows { R.knows rows.new ≡ R.knows rows.old }
-    ensures missing { (a : AskValue) → result ≡ Err (halt.Missing a) → R.knows rows.old a ≡ false }
+    ensures walked { OnOk result (Walked (R.face rows.old) (R.face rows.new) (R.noted rows.old) (R.noted rows.new) table None keys.old keys.new) }
+    ensures asked { Asked R.stays R.face rows.old rows.new result }
 {
     let mut after: Option<Key> = None;
     loop {

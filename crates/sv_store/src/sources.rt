@@ -1,4 +1,5 @@
-ghost use Rattle.std.specs.Prelude.{refl, true, false, None, Some};
+ghost use Rattle.std.specs.Prelude.{◌≡◌, refl, true, false, None, Some};
+ghost use Rattle.std.proofs.Common.{◌∙◌, sym, subst};
 ghost use Rattle.sv_effect.specs.BareTables.{bare};
 ghost use Rattle.sv_effect.specs.RowsFit.{TablesAreOf};
 ghost use Rattle.sv_store.specs.Rest.{rest_of};
@@ -11,11 +12,16 @@ use sv_value::Key;
 impl Rows for ListStore {
     ghost is_of = { λ store schema. TablesAreOf schema store.tables };
 
-    ghost tables = { λ store. Some (bare store.tables) };
+    ghost face = { λ store. record { tables = Some (bare store.tables); knows = λ ask. true; rest = rest_of store.tables } };
 
-    ghost knows = { λ store ask. true };
+    ghost stays = { λ a b. b ≡ a };
 
-    ghost rest = { λ store. rest_of store.tables };
+    ghost stays_laws = { record {
+      none = λ a. refl;
+      both = λ a b c p q. q ∙ p;
+      same_face = λ a b p i. record { tables = Some (bare (p i).tables); knows = λ ask. true; rest = rest_of (p i).tables };
+      same_app = λ a b schema p of. subst (λ store. TablesAreOf schema store.tables) (sym p) of;
+    } };
 
     ghost noted = { λ store. None };
 
@@ -42,6 +48,8 @@ impl RowStore for ListStore {
     ghost tells = { λ store. refl };
 
     ghost knows_all = { λ store ask. refl };
+
+    ghost stays_whole = { λ a b p. p };
 
     ghost never_short = { λ store. refl };
 

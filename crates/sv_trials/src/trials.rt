@@ -61,7 +61,7 @@ fn interpreted<R: Rows>(
     ensures fits { IfOk result (λ ran. AllFit (schema_of app.now.tables.items) ran.effects) }
     ensures few { IfOk result (λ ran. length ran.effects ≤ 64) }
 {
-    match run_txn(alloc, app, request, rows) {
+    match run_txn(alloc, app, request.txn, request.args.items(), rows) {
         Ok(ran) => Ok(ran),
         Err(_) => Err(Trouble::Wrong("the interpreter halted")),
     }

@@ -1,4 +1,4 @@
-use Rattle.std.proofs.Common.{◌≤◌, length, ◌∙◌, arith}
+use Rattle.std.proofs.Common.{◌≤◌, length, arith}
 use Rattle.sv_app.specs.Schema.{schema_of}
 use Rattle.sv_check.proofs.TableLaws.{schema_long}
 use Rattle.sv_check.proofs.VerdictLaws.{one_table, first_table, no_table_breaks}
@@ -12,10 +12,7 @@ returns-in-Breaks-clause-followed g c =
 pub loop-table-preserved : goal.loop-table-preserved
 loop-table-preserved g c = record {
   passed = one_table _ _ _ _ _ _ (schema_of c.args.app.now.tables.items) c.args.left.now c.loop-table.table c.in_ok-inv.field-0 c.loop-table.invariant.passed c.in_ok-inv.ensures.followed c.in-Keeps.is;
-  same_app = λ schema h. c.in_ok-inv.ensures.same_app schema (c.loop-table.invariant.same_app schema h);
-  same_tables = c.in_ok-inv.ensures.same_tables ∙ c.loop-table.invariant.same_tables;
-  same_knows = c.in_ok-inv.ensures.same_knows ∙ c.loop-table.invariant.same_knows;
-  same_rest = c.in_ok-inv.ensures.same_rest ∙ c.loop-table.invariant.same_rest;
+  stays = g.met.R.Rows.stays_laws.both _ _ _ c.loop-table.invariant.stays c.in_ok-inv.ensures.asked.stays;
 }
 
 pub returns-clause-followed : goal.returns-clause-followed

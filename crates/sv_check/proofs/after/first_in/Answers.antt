@@ -1,4 +1,4 @@
-use Rattle.std.proofs.Common.{◌≤◌, length, ◌∙◌, arith}
+use Rattle.std.proofs.Common.{◌≤◌, length, arith}
 use Rattle.sv_app.specs.Schema.{schema_of}
 use Rattle.sv_check.proofs.VerdictLaws.{one_passed, first_found, none_in}
 use Rattle.sv_check.proofs.after.first_in.Goals as goal
@@ -12,10 +12,7 @@ pub loop-inv-preserved : goal.loop-inv-preserved
 loop-inv-preserved g c = record {
   passed = one_passed _ _ _ _ _ _ (schema_of c.args.app.now.tables.items) c.args.left.now c.args.table c.args.invs.now c.loop-inv.inv-index c.inv-item.result c.in_ok-key.field-0 c.requires.declared
       c.loop-inv-test.true c.inv-item.is c.loop-inv.invariant.passed c.in_ok-key.ensures.followed c.in-None.is;
-  same_app = λ schema h. c.in_ok-key.ensures.same_app schema (c.loop-inv.invariant.same_app schema h);
-  same_tables = c.in_ok-key.ensures.same_tables ∙ c.loop-inv.invariant.same_tables;
-  same_knows = c.in_ok-key.ensures.same_knows ∙ c.loop-inv.invariant.same_knows;
-  same_rest = c.in_ok-key.ensures.same_rest ∙ c.loop-inv.invariant.same_rest;
+  stays = g.met.R.Rows.stays_laws.both _ _ _ c.loop-inv.invariant.stays c.in_ok-key.ensures.asked.stays;
 }
 
 pub returns-clause-followed : goal.returns-clause-followed

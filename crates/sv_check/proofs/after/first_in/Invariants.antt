@@ -1,5 +1,4 @@
-use Rattle.std.proofs.Common.{◌≡◌, List}
-use Rattle.sv_app.specs.Schema.{Declaration, schema_of}
+use Rattle.sv_app.specs.Schema.{schema_of}
 use Rattle.sv_effect.specs.Follows.{Follows}
 use Rattle.sv_check.proofs.VerdictLaws.{PassedIn}
 use Rattle.sv_check.proofs.after.first_in.Given as goal
@@ -8,9 +7,6 @@ abbrev pub invariant-loop-inv : goal.invariant-loop-inv
 invariant-loop-inv g l =
     let R = g.R.Rows in
     record {
-      passed : Follows (R.tables l.fn.rows) (R.tables l.rows) (R.noted l.fn.rows) (R.noted l.rows) (PassedIn (schema_of l.app.tables.items) l.left l.table l.inv-index);
-      same_app : (schema : List Declaration) → R.is_of l.fn.rows schema → R.is_of l.rows schema;
-      same_tables : R.tables l.rows ≡ R.tables l.fn.rows;
-      same_knows : R.knows l.rows ≡ R.knows l.fn.rows;
-      same_rest : R.rest l.rows ≡ R.rest l.fn.rows;
+      passed : Follows (R.face l.fn.rows) (R.face l.rows) (R.noted l.fn.rows) (R.noted l.rows) (PassedIn (schema_of l.app.tables.items) l.left l.table l.inv-index);
+      stays : R.stays l.fn.rows l.rows;
     }

@@ -1,4 +1,4 @@
-use Rattle.std.proofs.Common.{◌≡◌, suc, length, arith, sym, subst, ◌∙◌}
+use Rattle.std.proofs.Common.{◌≡◌, suc, length, arith, sym, subst}
 use Rattle.sv_app.specs.Schema.{schema_of}
 use Rattle.sv_effect.specs.Fits.{FitsSchema}
 use Rattle.sv_check.proofs.BoundLaws.{left_less, fits_at}
@@ -11,10 +11,7 @@ loop-effect-preserved g c = record {
       c.loop-effect-test.true c.effect-item.is c.loop-effect.invariant.made c.in_ok-change.ensures.followed;
   bounded = c.in_ok-change.ensures.bounded;
   many = let more : length c.change.new.left.items ≡ suc (length c.loop-effect.left.items) = c.in_ok-change.ensures.more in omega (arith, more, c.loop-effect.invariant.many);
-  same_app = λ schema h. c.in_ok-change.ensures.same_app schema (c.loop-effect.invariant.same_app schema h);
-  same_tables = c.in_ok-change.ensures.same_tables ∙ c.loop-effect.invariant.same_tables;
-  same_knows = c.in_ok-change.ensures.same_knows ∙ c.loop-effect.invariant.same_knows;
-  same_rest = c.in_ok-change.ensures.same_rest ∙ c.loop-effect.invariant.same_rest;
+  stays = g.met.R.Rows.stays_laws.both _ _ _ c.loop-effect.invariant.stays c.in_ok-change.ensures.asked.stays;
 }
 
 pub change-requires-clause-fits : goal.change-requires-clause-fits

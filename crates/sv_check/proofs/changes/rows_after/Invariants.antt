@@ -1,5 +1,5 @@
-use Rattle.std.proofs.Common.{◌≡◌, List, length, drop, map}
-use Rattle.sv_app.specs.Schema.{Declaration, schema_of}
+use Rattle.std.proofs.Common.{◌≡◌, length, drop, map}
+use Rattle.sv_app.specs.Schema.{schema_of}
 use Rattle.sv_effect.specs.Follows.{Follows}
 use Rattle.sv_effect.specs.RunChanges.{effect_of}
 use Rattle.sv_effect.specs.Effects.{with_effects}
@@ -11,12 +11,9 @@ abbrev pub invariant-loop-effect : goal.invariant-loop-effect
 invariant-loop-effect g l =
     let R = g.R.Rows in
     record {
-      made : Follows (R.tables l.fn.rows) (R.tables l.rows) (R.noted l.fn.rows) (R.noted l.rows)
+      made : Follows (R.face l.fn.rows) (R.face l.rows) (R.noted l.fn.rows) (R.noted l.rows)
           (λ t. with_effects (schema_of l.app.tables.items) (map effect_of (drop l.effect-index l.effects)) (over l.left.items t) ≡ with_effects (schema_of l.app.tables.items) (map effect_of l.effects) t);
       bounded : ChangesBounded (schema_of l.app.tables.items) l.left.items;
       many : length l.left.items ≡ l.effect-index;
-      same_app : (schema : List Declaration) → R.is_of l.fn.rows schema → R.is_of l.rows schema;
-      same_tables : R.tables l.rows ≡ R.tables l.fn.rows;
-      same_knows : R.knows l.rows ≡ R.knows l.fn.rows;
-      same_rest : R.rest l.rows ≡ R.rest l.fn.rows;
+      stays : R.stays l.fn.rows l.rows;
     }

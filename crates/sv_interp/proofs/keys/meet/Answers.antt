@@ -1,4 +1,3 @@
-use Rattle.std.proofs.Common.{◌∙◌}
 use Rattle.sv_app.specs.Trees.{test_of}
 use Rattle.sv_interp.proofs.MeetLaws.{one_judged, key_leaves}
 use Rattle.sv_interp.proofs.keys.meet.Goals as goal
@@ -12,7 +11,5 @@ pub loop-key-preserved : goal.loop-key-preserved
 loop-key-preserved g c = record {
   judged = one_judged c.args.own.now c.args.row c.args.table (test_of c.args.test.now) c.args.keys.now c.loop-key.met c.put_if.new.keys c.loop-key.key-index c.key-item.result _ _ _ _ _ _
       c.args.scope.now c.loop-key.scope c.meets.new.scope c.in_ok-holds.field-0 c.in-Some.holds c.loop-key.invariant.judged c.loop-key-test.true c.key-item.is c.in_ok-holds.ensures.followed c.in-Some.is c.in_ok-put_if.ensures;
-  same_app = λ schema h. c.in_ok-holds.ensures.same_app schema (c.loop-key.invariant.same_app schema h);
-  same_tables = c.in_ok-holds.ensures.same_tables ∙ c.loop-key.invariant.same_tables;
-  same_knows = c.in_ok-holds.ensures.same_knows ∙ c.loop-key.invariant.same_knows;
+  stays = g.met.R.Rows.stays_laws.both _ _ _ c.loop-key.invariant.stays c.in_ok-holds.ensures.asked.stays;
 }

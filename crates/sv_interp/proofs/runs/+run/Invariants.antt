@@ -1,5 +1,4 @@
-use Rattle.std.proofs.Common.{◌≡◌, ◌*◌, ◌+◌, drop, List, None}
-use Rattle.sv_app.specs.Schema.{Declaration}
+use Rattle.std.proofs.Common.{◌*◌, ◌+◌, drop, None}
 use Rattle.sv_app.specs.Trees.{command_of, block_of}
 use Rattle.sv_app.specs.Weights.{command_weight, block_weight}
 use Rattle.sv_effect.specs.Run.{run_block, row_turn, item_turn}
@@ -45,18 +44,14 @@ decreases-run_for g l = block_weight (block_of l.body.now) * 8 + 5
 
 abbrev pub invariant-run_items-loop-val : goal.invariant-run_items-loop-val
 invariant-run_items-loop-val g l = record {
-  ran : Reaches l.vals (drop l.val-index l.vals) (item_turn l.unit l.var (run_block (setting_of l.setting) (block_of l.body))) (g.R.Rows.tables l.fn.rows) (g.R.Rows.tables l.rows) (g.R.Rows.noted l.fn.rows) (g.R.Rows.noted l.rows) l.fn.state l.state;
+  ran : Reaches l.vals (drop l.val-index l.vals) (item_turn l.unit l.var (run_block (setting_of l.setting) (block_of l.body))) (g.R.Rows.face l.fn.rows) (g.R.Rows.face l.rows) (g.R.Rows.noted l.fn.rows) (g.R.Rows.noted l.rows) l.fn.state l.state;
   kept : Keeps (g.R.Rows.is_of l.fn.rows) (setting_of l.setting) (ItemTurns l.unit l.var l.vals (block_of l.body)) l.fn.state None l.state;
-  same_app : (schema : List Declaration) → g.R.Rows.is_of l.fn.rows schema → g.R.Rows.is_of l.rows schema;
-  same_tables : g.R.Rows.tables l.rows ≡ g.R.Rows.tables l.fn.rows;
-  same_knows : g.R.Rows.knows l.rows ≡ g.R.Rows.knows l.fn.rows;
+  stays : g.R.Rows.stays l.fn.rows l.rows;
 }
 
 abbrev pub invariant-run_rows-loop-key : goal.invariant-run_rows-loop-key
 invariant-run_rows-loop-key g l = record {
-  ran : Reaches l.keys (drop l.key-index l.keys) (row_turn l.unit l.row l.table (run_block (setting_of l.setting) (block_of l.body))) (g.R.Rows.tables l.fn.rows) (g.R.Rows.tables l.rows) (g.R.Rows.noted l.fn.rows) (g.R.Rows.noted l.rows) l.fn.state l.state;
+  ran : Reaches l.keys (drop l.key-index l.keys) (row_turn l.unit l.row l.table (run_block (setting_of l.setting) (block_of l.body))) (g.R.Rows.face l.fn.rows) (g.R.Rows.face l.rows) (g.R.Rows.noted l.fn.rows) (g.R.Rows.noted l.rows) l.fn.state l.state;
   kept : Keeps (g.R.Rows.is_of l.fn.rows) (setting_of l.setting) (RowTurns l.unit l.row l.table (block_of l.body)) l.fn.state None l.state;
-  same_app : (schema : List Declaration) → g.R.Rows.is_of l.fn.rows schema → g.R.Rows.is_of l.rows schema;
-  same_tables : g.R.Rows.tables l.rows ≡ g.R.Rows.tables l.fn.rows;
-  same_knows : g.R.Rows.knows l.rows ≡ g.R.Rows.knows l.fn.rows;
+  stays : g.R.Rows.stays l.fn.rows l.rows;
 }

@@ -1,4 +1,4 @@
-use Rattle.std.proofs.Common.{◌∙◌, None}
+use Rattle.std.proofs.Common.{None}
 use Rattle.sv_interp.proofs.KeyLaws.{walk_goes, walk_ends}
 use Rattle.sv_interp.proofs.walks.walk.Goals as goal
 
@@ -6,10 +6,7 @@ pub loop-key-preserved : goal.loop-key-preserved
 loop-key-preserved g c = record {
   walked = walk_goes _ _ _ _ _ _ c.args.table None c.loop-key.after c.in_ok-key.field-0 c.in-Some.key c.args.keys.now c.loop-key.keys c.put_key.new.keys
       c.loop-key.invariant.walked c.in_ok-key.ensures.followed c.in-Some.is c.in_ok-put_key-in-Some.ensures;
-  same_app = λ schema h. c.in_ok-key.ensures.same_app schema (c.loop-key.invariant.same_app schema h);
-  same_tables = c.in_ok-key.ensures.same_tables ∙ c.loop-key.invariant.same_tables;
-  same_knows = c.in_ok-key.ensures.same_knows ∙ c.loop-key.invariant.same_knows;
-  same_rest = c.in_ok-key.ensures.same_rest ∙ c.loop-key.invariant.same_rest;
+  stays = g.met.R.Rows.stays_laws.both _ _ _ c.loop-key.invariant.stays c.in_ok-key.ensures.asked.stays;
 }
 
 pub returns-in-None-clause-walked : goal.returns-in-None-clause-walked
