@@ -9,7 +9,7 @@ use Rattle.sv_app.specs.Firsts.{comes_before, IsFirst}
 use Rattle.sv_typing.specs.Noted.{sooner, noted}
 
 -- the same order, of a line, a column and a number
-abbrev lesser : ℕ → ℕ → ℕ → ℕ → ℕ → ℕ → Bool
+abbrev pub lesser : ℕ → ℕ → ℕ → ℕ → ℕ → ℕ → Bool
 lesser a b c x y z = (nat_lt a x || (a == x && nat_lt b y)) || ((a == x && b == y) && nat_lt c z)
 
 lesser_irreflexive : (a b c : ℕ) → lesser a b c a b c ≡ false
@@ -61,7 +61,7 @@ one_more false held x r xs e f = record {
       none_cons r held (x ∷ xs) own (none_cons r x xs (behind_held x held r e own) (none_tail r held xs f.first));
 }
 
-first_behind : (held r : Refusal) (xs : List Refusal) → noted (Some held) xs ≡ Some r → IsFirst (held ∷ xs) r
+pub first_behind : (held r : Refusal) (xs : List Refusal) → noted (Some held) xs ≡ Some r → IsFirst (held ∷ xs) r
 first_behind held r [] e = let same : held ≡ r = cc in record {
   is = (0, omega arith, same);
   first = none_cons r held [] (rw same (itself r)) (λ k d h. absurd (omega (arith, h)));
@@ -82,7 +82,7 @@ pub noted_is_none : (xs : List Refusal) → noted None xs ≡ None → xs ≡ []
 noted_is_none [] e = refl
 noted_is_none (x ∷ xs) e = absurd (never_lost x xs e)
 
-lesser_neither : (a b c x y z : ℕ) → lesser a b c x y z ≡ false → lesser x y z a b c ≡ false → (a ≡ x) × (b ≡ y) × (c ≡ z)
+pub lesser_neither : (a b c x y z : ℕ) → lesser a b c x y z ≡ false → lesser x y z a b c ≡ false → (a ≡ x) × (b ≡ y) × (c ≡ z)
 lesser_neither a b c x y z p q =
     let line : a ≡ x = grind (arith, nat_tests, p, q) in
     let column : b ≡ y = grind (arith, nat_tests, p, q, line) in

@@ -11,6 +11,7 @@ pub mod ErasedTxns
 pub mod FillLaws
 pub mod FirstLaws
 pub mod LookupLaws
+pub mod SecondLaws
 pub mod StatementLaws
 pub mod SystemLaws
 pub mod UnmetLaws

@@ -1,5 +1,6 @@
 pub mod Laws
 pub mod Noted
 pub mod Reached
+pub mod Seconds
 pub mod Standing
 pub mod Systems

@@ -1,4 +1,4 @@
-ghost use Rattle.std.specs.Prelude.{◌≡◌, ◌++◌, map};
+ghost use Rattle.std.specs.Prelude.{◌≡◌, ◌++◌, OnOk, map};
 ghost use Rattle.std.specs.List.{flat_map};
 ghost use Rattle.sv_app.specs.declared.acts.Act.TheVariants as acts;
 ghost use Rattle.sv_app.specs.declared.apps.Ident.{Ident as IdentValue};
@@ -13,10 +13,12 @@ ghost use Rattle.sv_typing.specs.Standing.{scope_of};
 use crate::expressions::note_term;
 use crate::firsts::First;
 use crate::lookups::table_of;
-use crate::named::note_repeats;
 use crate::scopes::Scope;
+use crate::seconds::note_all_repeats;
 use crate::values::{note_kind, note_sets, note_terms, note_values};
+use std::alloc::Global;
 use sv_app::{Act, Code, Expr, Ident, Table};
+use sv_value::NoMemory;
 
 /// Notes what is wrong with the keys of a row of the table.
 #[tactic(auto, using(crate::proofs::NotedLaws::map_same))]
@@ -109,25 +111,31 @@ fn note_set_terms(first: &mut First, at: &Scope, sets: &[(Ident, Expr)])
 
 /// Notes each column that is set a second time.
 #[tactic(auto, using(crate::proofs::ValueLaws::set_names))]
-fn note_second_sets(first: &mut First, sets: &[(Ident, Expr)])
-    ensures { first.new.held ≡ noted first.old.held (repeats (map (λ (s : IdentValue × Term). s.0) (sets_of sets.now))) }
+fn note_second_sets(
+    alloc: Global,
+    first: &mut First,
+    sets: &[(Ident, Expr)],
+) -> Result<(), NoMemory>
+    ensures { OnOk result (first.new.held ≡ noted first.old.held (repeats (map (λ (s : IdentValue × Term). s.0) (sets_of sets.now)))) }
 {
-    note_repeats(first, sets);
+    note_all_repeats(alloc, first, sets)
 }
 
 /// Notes what is wrong with an update.
 #[tactic(auto, using(crate::proofs::NotedLaws::noting))]
 pub fn note_update(
+    alloc: Global,
     first: &mut First,
     at: &Scope,
     name: &Ident,
     key: &[Expr],
     sets: &[(Ident, Expr)],
-)
-    ensures { first.new.held ≡ noted first.old.held (command_faults (scope_of at.now) (Update name.now (terms_of key.now) (sets_of sets.now))) }
+) -> Result<(), NoMemory>
+    ensures { OnOk result (first.new.held ≡ noted first.old.held (command_faults (scope_of at.now) (Update name.now (terms_of key.now) (sets_of sets.now)))) }
 {
     note_updated(first, at, name, key, sets);
     note_terms(first, at, key);
-    note_second_sets(first, sets);
+    note_second_sets(alloc, first, sets)?;
     note_set_terms(first, &at.updating(*name), sets);
+    Ok(())
 }

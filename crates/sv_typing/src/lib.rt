@@ -19,6 +19,7 @@ mod named;
 mod numbers;
 mod references;
 mod scopes;
+mod seconds;
 mod statements;
 mod terms;
 mod txn_numbers;

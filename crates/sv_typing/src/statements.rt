@@ -107,7 +107,9 @@ fn note_stmt(alloc: Global, first: &mut First, at: &Scope, stmt: &Stmt) -> Resul
         } => return note_rows(alloc, first, at, &row, &table, cond),
         Parts::Each { list, .. } => note_walk(first, meaning_of(at, &list), &list),
         Parts::Insert { table, values } => note_insert(first, at, &table, values),
-        Parts::Update { table, key, sets } => note_update(first, at, &table, key, sets),
+        Parts::Update { table, key, sets } => {
+            return note_update(alloc, first, at, &table, key, sets);
+        }
         Parts::Remove { table, key } => note_remove(first, at, &table, key),
         Parts::Abort { .. } => {}
     }
