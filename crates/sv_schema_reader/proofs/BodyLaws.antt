@@ -7,18 +7,22 @@ use Rattle.sv_app.specs.declared.apps.Ident.{Ident}
 use Rattle.sv_app.specs.declared.refusals.Code.TheVariants.{Many}
 use Rattle.sv_app.specs.declared.schemas.Check.{Check}
 use Rattle.sv_app.specs.Schema.{Rule, Bound, OneOf, Different, Refers}
-use Rattle.sv_schema_reader.specs.declared.faults.Fault.{Fault}
+use Rattle.sv_reader.specs.declared.faults.ReadFault.{ReadFault}
 use Rattle.sv_schema_reader.specs.declared.parts.Side.{Side}
-use Rattle.sv_schema_reader.specs.Grammar.{◌·◌, word, mark, name, text, separated, IsSide, check_of, Compared}
+use Rattle.sv_reader.specs.Grammar.{◌·◌, word, mark, name, text, separated}
+use Rattle.sv_schema_reader.specs.Grammar.{IsSide, check_of, Compared}
 use Rattle.sv_schema_reader.specs.Limits.{Fits64, IsSmallRule}
-use Rattle.sv_schema_reader.specs.Reading.{Read, ◌>>=◌, is_next, is_some, name_of, token_at, kind_at, name_at, is_name, side_of, fixed_at, fits64, bounded, compared_at, order_of, side_at, texts_at, checked_at, check_body_at}
+use Rattle.sv_reader.specs.Reading.{Read, ◌>>=◌, is_next, is_some, name_of, token_at, kind_at, name_at, is_name}
+use Rattle.sv_schema_reader.specs.Reading.{side_of, fixed_at, fits64, bounded, compared_at, order_of, side_at, texts_at, checked_at, check_body_at}
 use Rattle.sv_schema_reader.proofs.CheckLaws.{bounded_rule, fit_rule, unfit_rule, compared_law, checked_rule, small_checked_rule, side_rule, checked_law}
-use Rattle.sv_schema_reader.proofs.MadeLaws.{Made}
-use Rattle.sv_schema_reader.proofs.PartLaws.{next_alike, name_law, name_next}
-use Rattle.sv_schema_reader.proofs.ReadLaws.{Alike, Lawful, anything, Then, Either, Left, Right, after, either, same_languages}
-use Rattle.sv_schema_reader.proofs.SideLaws.{both_assoc, assoc_both, side_tail, IsFixed, fixed_law, fixed_no_name, side_in, side_out, comparison}
+use Rattle.sv_reader.proofs.MadeLaws.{Made}
+use Rattle.sv_reader.proofs.AnswerLaws.{next_alike, Alike, anything}
+use Rattle.sv_reader.proofs.PartLaws.{name_law, name_next, both_assoc, assoc_both}
+use Rattle.sv_reader.proofs.ReadLaws.{Lawful, Then, Either, Left, Right, after, either, same_languages}
+use Rattle.sv_schema_reader.proofs.SideLaws.{side_tail, IsFixed, fixed_law, fixed_no_name, side_in, side_out, comparison}
 use Rattle.sv_schema_reader.proofs.TextLaws.{text_rule}
 use Rattle.sv_schema_reader.proofs.TroubleLaws.{Trouble, trouble_behind, trouble_same, Agree, Equal, Unequal, agree_then, agree_either}
+use Rattle.sv_schema_reader.proofs.MatterLaws.{schemas}
 
 -- the language of a check's inside, by what follows its first column
 abbrev inner_rule : (Ident → Rule → List Token → Type 0) → (Side → Rule → List Token → Type 0) → Rule → List Token → Type 0
@@ -27,22 +31,22 @@ inner_rule C R = Either (Then name C) (Then IsFixed R)
 abbrev bound_rule : (Side → Rule → List Token → Type 0) → Rule → List Token → Type 0
 bound_rule R = Either (Then name (side_rule R)) (Then IsFixed R)
 
-abbrev InnerTrouble : ℕ → List Token → Fault → Type 0
+abbrev InnerTrouble : ℕ → List Token → ReadFault → Type 0
 InnerTrouble start = Trouble check_body_at (inner_rule checked_rule bounded_rule) (inner_rule small_checked_rule fit_rule) (bound_rule bounded_rule) (bound_rule unfit_rule) start
 
-named_law : (start : ℕ) → Lawful anything (Then name checked_rule) (Then name small_checked_rule)
+named_law : (start : ℕ) → Lawful schemas anything (Then name checked_rule) (Then name small_checked_rule)
     (Trouble (λ s l. name_at l >>= λ col r. checked_at s col r) (Then name checked_rule) (Then name small_checked_rule) (Then name (side_rule bounded_rule)) (Then name (side_rule unfit_rule)) start)
     (λ tokens. name_at tokens >>= λ col r. checked_at start col r)
-named_law start = after (name_law anything) (λ col. checked_law start col) (λ col rule tokens rest is ends. refl) (λ tokens fault never. absurd never)
+named_law start = after (name_law schemas anything) (λ col. checked_law start col) (λ col rule tokens rest is ends. refl) (λ tokens fault never. absurd never)
     (λ tokens col rest fault took trouble. trouble_behind name_at (λ col s r. checked_at s col r) start tokens col rest fault took trouble)
 
-fixed_check_law : (start : ℕ) → Lawful anything (Then IsFixed bounded_rule) (Then IsFixed fit_rule)
+fixed_check_law : (start : ℕ) → Lawful schemas anything (Then IsFixed bounded_rule) (Then IsFixed fit_rule)
     (Trouble (λ s l. fixed_at l >>= λ left r. compared_at s left r) (Then IsFixed bounded_rule) (Then IsFixed fit_rule) (Then IsFixed bounded_rule) (Then IsFixed unfit_rule) start)
     (λ tokens. fixed_at tokens >>= λ left r. compared_at start left r)
 fixed_check_law start = after (fixed_law anything) (λ left. compared_law start left) (λ left rule tokens rest is ends. refl) (λ tokens fault never. absurd never)
     (λ tokens left rest fault took trouble. trouble_behind fixed_at (λ left s r. compared_at s left r) start tokens left rest fault took trouble)
 
-inner_law : (start : ℕ) → Lawful anything (inner_rule checked_rule bounded_rule) (inner_rule small_checked_rule fit_rule) (InnerTrouble start) (check_body_at start)
+inner_law : (start : ℕ) → Lawful schemas anything (inner_rule checked_rule bounded_rule) (inner_rule small_checked_rule fit_rule) (InnerTrouble start) (check_body_at start)
 unfolding check_body_at
 inner_law start = either is_name name_alike (named_law start) (fixed_check_law start)
     (λ rule front rest t. name_next t.head (checked_rule t.head rule) front rest t.parts)
@@ -297,10 +301,10 @@ such_body W rule l = check_body rule l × such_check W rule
 bound_body : (W : Check → Type 0) (rule : Rule) (l : List Token) → bound_rule (such_rule W) rule l → such_body W rule l
 bound_body W rule l b = let m = such W rule l b in subst (λ r. such_body W r l) (sym m.made) m.is
 
-abbrev pub BodyTrouble : ℕ → List Token → Fault → Type 0
+abbrev pub BodyTrouble : ℕ → List Token → ReadFault → Type 0
 BodyTrouble start = Trouble check_body_at check_body small_body (such_body AnyCheck) (such_body Unfitting) start
 
-pub body_law : (start : ℕ) → Lawful anything check_body small_body (BodyTrouble start) (check_body_at start)
+pub body_law : (start : ℕ) → Lawful schemas anything check_body small_body (BodyTrouble start) (check_body_at start)
 body_law start = same_languages (inner_law start) into out small_into small_out
     (λ tokens fault trouble. trouble_same (λ r. r) start tokens fault into small_into (λ r l b. bound_body AnyCheck r l (any_bound r l b)) (λ r l b. bound_body Unfitting r l b) (λ s l other alike is. is) trouble)
   where

@@ -10,21 +10,25 @@ use Rattle.sv_app.specs.declared.apps.Ident.{Ident}
 use Rattle.sv_app.specs.declared.refusals.Code.TheVariants.{Many}
 use Rattle.sv_app.specs.declared.schemas.Check.{Check}
 use Rattle.sv_app.specs.Schema.{Rule, Bound, OneOf}
-use Rattle.sv_schema_reader.specs.declared.faults.Fault.{Fault}
+use Rattle.sv_reader.specs.declared.faults.ReadFault.{ReadFault}
 use Rattle.sv_schema_reader.specs.declared.parts.Side.{Side}
 use Rattle.sv_schema_reader.specs.declared.parts.Order.{Order}
 use Rattle.sv_schema_reader.specs.declared.parts.Order.TheVariants.{AtMost, Below, AtLeast, Above}
-use Rattle.sv_schema_reader.specs.Grammar.{◌·◌, kind, mark, text, fixed, order, check_of}
+use Rattle.sv_reader.specs.Grammar.{◌·◌, kind, mark, text}
+use Rattle.sv_schema_reader.specs.Grammar.{fixed, order, check_of}
 use Rattle.sv_schema_reader.specs.Limits.{Fits64}
-use Rattle.sv_schema_reader.specs.Reading.{Read, ◌>>=◌, is_kind, is_next, token_at, kind_at, side_of, side_at, order_of, fits64, bounded, compared_at, texts_at, checked_at}
-use Rattle.sv_schema_reader.proofs.KindLaws.{token_of}
-use Rattle.sv_schema_reader.proofs.ListLaws.{list}
-use Rattle.sv_schema_reader.proofs.MadeLaws.{Made}
-use Rattle.sv_schema_reader.proofs.PartLaws.{next_alike, kind_next}
-use Rattle.sv_schema_reader.proofs.ReadLaws.{Alike, Start, Took, Stuck, Passes, Lawful, Plain, anything, Then, Either, Left, Right, after, either, start_map, bound, Bound as Read_first, bound_err, same_read, then_ok, then_err}
-use Rattle.sv_schema_reader.proofs.SideLaws.{kind_first, side_tail, side_of_law, side_in, clash_side, comparison, free_compared_at, free_compared_law}
+use Rattle.sv_reader.specs.Reading.{Read, ◌>>=◌, is_kind, is_next, token_at, kind_at}
+use Rattle.sv_schema_reader.specs.Reading.{side_of, side_at, order_of, fits64, bounded, compared_at, texts_at, checked_at}
+use Rattle.sv_reader.proofs.KindLaws.{token_of}
+use Rattle.sv_reader.proofs.ListLaws.{list}
+use Rattle.sv_reader.proofs.MadeLaws.{Made}
+use Rattle.sv_reader.proofs.AnswerLaws.{next_alike, Alike, anything, bound, Bound as Read_first, bound_err, same_read, then_ok, then_err}
+use Rattle.sv_reader.proofs.PartLaws.{kind_next, kind_first}
+use Rattle.sv_reader.proofs.ReadLaws.{Start, Took, Stuck, Passes, Lawful, Plain, Then, Either, Left, Right, after, either, start_map}
+use Rattle.sv_schema_reader.proofs.SideLaws.{side_tail, side_of_law, side_in, clash_side, comparison, free_compared_at, free_compared_law}
 use Rattle.sv_schema_reader.proofs.TextLaws.{text_rule, few_text_rule, texts_law}
 use Rattle.sv_schema_reader.proofs.TroubleLaws.{Loose, Unfit, Trouble, IsLoose, IsUnfit, trouble_behind, trouble_same, over_inside}
+use Rattle.sv_schema_reader.proofs.MatterLaws.{schemas}
 
 -- the test of a bound
 
@@ -81,7 +85,7 @@ unfit_bound : (start : ℕ) (check : Check) (rest : List Token) → fits64 check
 unfit_bound start check rest e = ap (λ b. cond {A = Read Rule} b (Ok (Bound check, rest)) (Err (record { code = Many; left = start }))) e
 
 pub compared_law : (start : ℕ) (left : Side)
-    → Lawful anything (bounded_rule left) (fit_rule left) (Trouble (λ s. compared_at s left) (bounded_rule left) (fit_rule left) (bounded_rule left) (unfit_rule left) start) (compared_at start left)
+    → Lawful schemas anything (bounded_rule left) (fit_rule left) (Trouble (λ s. compared_at s left) (bounded_rule left) (fit_rule left) (bounded_rule left) (unfit_rule left) start) (compared_at start left)
 compared_law start left = record {
   inside = λ rule l m. record { «from» = m.«from»; is = m.is.0; made = m.made };
   some = some;
@@ -91,7 +95,7 @@ compared_law start left = record {
   fails = fails;
 }
   where
-    free : Plain anything (comparison left) (free_compared_at left)
+    free : Plain schemas anything (comparison left) (free_compared_at left)
     free = free_compared_law left
 
     some : Start (fit_rule left) []
@@ -159,11 +163,11 @@ compared_law start left = record {
         by_fits true f = inl (read ∙ fit_bound start m.«from» rest (fits_is m.«from».most f) ∙ ap (λ x. Ok (x, rest)) (sym m.made))
         by_fits false f = inr (record { left = start; is = read ∙ unfit_bound start m.«from» rest f })
 
-    fails : (tokens : List Token) (fault : Fault) → compared_at start left tokens ≡ Err fault
-        → Stuck (bounded_rule left) (fit_rule left) (compared_at start left) tokens fault ⊎ Trouble (λ s. compared_at s left) (bounded_rule left) (fit_rule left) (bounded_rule left) (unfit_rule left) start tokens fault
+    fails : (tokens : List Token) (fault : ReadFault) → compared_at start left tokens ≡ Err fault
+        → Stuck schemas (bounded_rule left) (fit_rule left) (compared_at start left) tokens fault ⊎ Trouble (λ s. compared_at s left) (bounded_rule left) (fit_rule left) (bounded_rule left) (unfit_rule left) start tokens fault
     fails tokens fault e = inr (by_first (bound_err (free_compared_at left tokens) (λ check r. bounded start check r) fault (sym (compared_is start left tokens) ∙ e)))
       where
-        loose : Stuck (comparison left) (comparison left) (free_compared_at left) tokens fault → Loose (λ s. compared_at s left) (bounded_rule left) tokens fault
+        loose : Stuck schemas (comparison left) (comparison left) (free_compared_at left) tokens fault → Loose (λ s. compared_at s left) (bounded_rule left) tokens fault
         loose stuck = record {
           front = stuck.front;
           rest = stuck.rest;
@@ -203,7 +207,7 @@ compared_law start left = record {
           again = λ s last. by_free s (t.front ++ last) check last (free.reads check t.front last t.is refl) ∙ unfit_bound s check last f;
         }
 
-        by_stuck : Stuck (comparison left) (comparison left) (free_compared_at left) tokens fault ⊎ ⊥ → Trouble (λ s. compared_at s left) (bounded_rule left) (fit_rule left) (bounded_rule left) (unfit_rule left) start tokens fault
+        by_stuck : Stuck schemas (comparison left) (comparison left) (free_compared_at left) tokens fault ⊎ ⊥ → Trouble (λ s. compared_at s left) (bounded_rule left) (fit_rule left) (bounded_rule left) (unfit_rule left) start tokens fault
         by_stuck (inl stuck) = IsLoose (loose stuck)
         by_stuck (inr never) = absurd never
 
@@ -222,7 +226,7 @@ checked_rule col = Either (Made (OneOf col) text_rule) (side_rule bounded_rule c
 abbrev pub small_checked_rule : Ident → Rule → List Token → Type 0
 small_checked_rule col = Either (Made (OneOf col) few_text_rule) (side_rule fit_rule col)
 
-abbrev CheckedTrouble : ℕ → Ident → List Token → Fault → Type 0
+abbrev CheckedTrouble : ℕ → Ident → List Token → ReadFault → Type 0
 CheckedTrouble start col = Trouble (λ s. checked_at s col) (checked_rule col) (small_checked_rule col) (side_rule bounded_rule col) (side_rule unfit_rule col) start
 
 pub order_no_side : (check : Check) (left : Side) (front rest : List Token) → comparison left check front → clash_side (front ++ rest) ≡ false
@@ -240,7 +244,7 @@ order_no_side check left front rest m = by_order m.«from».0 m.is.front m.is.ba
     by_order Above a b whole is = by_kind (Mark Gt) a b whole is refl refl
 
 side_checked_law : (start : ℕ) (col : Ident)
-    → Lawful anything (side_rule bounded_rule col) (side_rule fit_rule col) (Trouble (λ s l. side_of col l >>= λ left r. compared_at s left r) (side_rule bounded_rule col) (side_rule fit_rule col) (side_rule bounded_rule col) (side_rule unfit_rule col) start)
+    → Lawful schemas anything (side_rule bounded_rule col) (side_rule fit_rule col) (Trouble (λ s l. side_of col l >>= λ left r. compared_at s left r) (side_rule bounded_rule col) (side_rule fit_rule col) (side_rule bounded_rule col) (side_rule unfit_rule col) start)
     (λ tokens. side_of col tokens >>= λ left r. compared_at start left r)
 side_checked_law start col = after (side_of_law col) (λ left. compared_law start left)
     (λ left rule tokens rest m ends. order_no_side m.«from» left tokens rest m.is)
@@ -270,7 +274,7 @@ no_in col rule front rest t = by_tail t.parts.first
         let c = t.parts.then.is in
         ap (λ l. is_next (Name (codes "in")) l) (whole ∙ ap (λ l. l ++ (t.parts.back ++ rest)) m.is ∙ ap (λ l. l ++ rest) c.is.whole) ∙ by_order c.«from».0 c.is.front c.is.back rest c.is.first
 
-pub checked_law : (start : ℕ) (col : Ident) → Lawful anything (checked_rule col) (small_checked_rule col) (CheckedTrouble start col) (checked_at start col)
+pub checked_law : (start : ℕ) (col : Ident) → Lawful schemas anything (checked_rule col) (small_checked_rule col) (CheckedTrouble start col) (checked_at start col)
 unfolding checked_at
 checked_law start col = either (is_next (Name (codes "in"))) in_alike (texts_law col) (side_checked_law start col)
     (λ rule front rest m. kind_next (Name (codes "in")) (mark LeftParen · list text m.«from» · mark RightParen) front rest m.is)

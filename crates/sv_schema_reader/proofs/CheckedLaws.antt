@@ -6,16 +6,19 @@ use Rattle.sv_lex.specs.declared.tokens.Token.{Token}
 use Rattle.sv_lex.specs.declared.tokens.TokenKind.TheVariants.{Name, Mark}
 use Rattle.sv_app.specs.declared.refusals.Code.TheVariants.{Syntax, Many}
 use Rattle.sv_app.specs.Schema.{Rule, Bound, OneOf, Different, Refers}
-use Rattle.sv_schema_reader.specs.declared.faults.Fault.{Fault}
-use Rattle.sv_schema_reader.specs.Grammar.{◌·◌, word_at, mark}
+use Rattle.sv_reader.specs.declared.faults.ReadFault.{ReadFault}
+use Rattle.sv_reader.specs.Grammar.{◌·◌, word_at, mark}
 use Rattle.sv_schema_reader.specs.Limits.{IsSmallRule}
-use Rattle.sv_schema_reader.specs.Reading.{Read, ◌>>=◌, refuse, found_at, given, is_kind, kind_at, check_body_at, Demanded, check_at}
+use Rattle.sv_reader.specs.Reading.{Read, ◌>>=◌, refuse, found_at, given, is_kind, kind_at}
+use Rattle.sv_schema_reader.specs.Reading.{check_body_at, Demanded, check_at}
 use Rattle.sv_schema_reader.specs.Refused.{IsPart, InCheck, IsElement, Outside}
 use Rattle.sv_schema_reader.proofs.BodyLaws.{check_body, small_body, such_body, Unfitting, BodyTrouble, body_law, body_agree}
-use Rattle.sv_schema_reader.proofs.KindLaws.{token_of}
-use Rattle.sv_schema_reader.proofs.MadeLaws.{Made, placed, kind_law, take, take_last, skip}
-use Rattle.sv_schema_reader.proofs.ReadLaws.{alike_same, Start, Took, Stuck, Over, Passes, Lawful, Limited, anything, same_languages, open_map, open_start}
-use Rattle.sv_schema_reader.proofs.TroubleLaws.{Inside, Loose, Unfit, IsInside, IsLoose, IsUnfit, Agree, agree_then, agree_first, agree_misplaced, many_syntax}
+use Rattle.sv_reader.proofs.KindLaws.{token_of}
+use Rattle.sv_reader.proofs.MadeLaws.{Made, placed, kind_law, take, take_last, skip}
+use Rattle.sv_reader.proofs.AnswerLaws.{alike_same, anything, many_syntax}
+use Rattle.sv_reader.proofs.ReadLaws.{Start, Took, Stuck, Over, Passes, Lawful, Limited, same_languages, open_map, open_start}
+use Rattle.sv_schema_reader.proofs.TroubleLaws.{Inside, Loose, Unfit, IsInside, IsLoose, IsUnfit, Agree, agree_then, agree_first, agree_misplaced}
+use Rattle.sv_schema_reader.proofs.MatterLaws.{schemas}
 
 -- "check" "(" and what stands behind them
 abbrev pub check_words : Demanded → List Token → Type 0
@@ -34,14 +37,14 @@ unfolding check_at
 check_is tokens = refl
 
 -- trouble behind the parenthesis, and behind the word
-record BehindParen (start : ℕ) (tokens : List Token) (fault : Fault) : Type 0 where
+record BehindParen (start : ℕ) (tokens : List Token) (fault : ReadFault) : Type 0 where
   pub paren : Token
   pub rest : List Token
   pub whole : tokens ≡ paren ∷ rest
   pub is : paren.kind ≡ Mark LeftParen
   pub trouble : BodyTrouble start rest fault
 
-record BehindWord (start : ℕ) (tokens : List Token) (fault : Fault) : Type 0 where
+record BehindWord (start : ℕ) (tokens : List Token) (fault : ReadFault) : Type 0 where
   pub word : Token
   pub rest : List Token
   pub whole : tokens ≡ word ∷ rest
@@ -54,15 +57,15 @@ parts x = placed (Name (codes "check")) x.0 · mark LeftParen · check_body x.1
 abbrev small_parts : Spot × Rule → List Token → Type 0
 small_parts x = placed (Name (codes "check")) x.0 · mark LeftParen · small_body x.1
 
-told_law : (start : ℕ) → Lawful anything (Made (λ (x : Spot × Rule). let d : Demanded = (x.0, x.1) in d) parts) (Made (λ (x : Spot × Rule). let d : Demanded = (x.0, x.1) in d) small_parts) (BehindWord start) (told_check_at start)
-told_law start = take (λ spot rule. let d : Demanded = (spot, rule) in d) (kind_law anything (Name (codes "check")))
+told_law : (start : ℕ) → Lawful schemas anything (Made (λ (x : Spot × Rule). let d : Demanded = (x.0, x.1) in d) parts) (Made (λ (x : Spot × Rule). let d : Demanded = (x.0, x.1) in d) small_parts) (BehindWord start) (told_check_at start)
+told_law start = take (λ spot rule. let d : Demanded = (spot, rule) in d) (kind_law schemas anything (Name (codes "check")))
     (λ spot. skip (Mark LeftParen) (λ rule. let d : Demanded = (spot, rule) in d) (take_last (λ rule. let d : Demanded = (spot, rule) in d) (body_law start)) behind_paren)
     (λ spot rule tokens rest is ends. refl) (λ tokens fault never. absurd never) behind_word
   where
-    behind_paren : (tokens : List Token) (spot : Spot) (rest : List Token) (fault : Fault) → Took (placed (Mark LeftParen)) (kind_at (Mark LeftParen)) tokens spot rest → BodyTrouble start rest fault → BehindParen start tokens fault
+    behind_paren : (tokens : List Token) (spot : Spot) (rest : List Token) (fault : ReadFault) → Took (placed (Mark LeftParen)) (kind_at (Mark LeftParen)) tokens spot rest → BodyTrouble start rest fault → BehindParen start tokens fault
     behind_paren tokens spot rest fault took trouble = record { paren = took.is.token; rest = rest; whole = took.whole ∙ ap (λ l. l ++ rest) took.is.only; is = took.is.holds.0; trouble = trouble }
 
-    behind_word : (tokens : List Token) (spot : Spot) (rest : List Token) (fault : Fault) → Took (placed (Name (codes "check"))) (kind_at (Name (codes "check"))) tokens spot rest → BehindParen start rest fault → BehindWord start tokens fault
+    behind_word : (tokens : List Token) (spot : Spot) (rest : List Token) (fault : ReadFault) → Took (placed (Name (codes "check"))) (kind_at (Name (codes "check"))) tokens spot rest → BehindParen start rest fault → BehindWord start tokens fault
     behind_word tokens spot rest fault took more = record { word = took.is.token; rest = rest; whole = took.whole ∙ ap (λ l. l ++ rest) took.is.only; is = took.is.holds.0; more = more }
 
 words_in : (d : Demanded) (l : List Token) → Made (λ (x : Spot × Rule). let d : Demanded = (x.0, x.1) in d) parts d l → check_words d l
@@ -88,7 +91,7 @@ small_out d l is = record {
   made = refl;
 }
 
-told : (start : ℕ) → Lawful anything check_words small_check (BehindWord start) (told_check_at start)
+told : (start : ℕ) → Lawful schemas anything check_words small_check (BehindWord start) (told_check_at start)
 told start = same_languages (told_law start) words_in words_out small_in small_out (λ tokens fault is. is)
 
 told_agree : (s t : ℕ) (tokens : List Token) → Agree s t (told_check_at s tokens) (told_check_at t tokens)
@@ -120,7 +123,7 @@ module _ (word paren : Token) (w : word.kind ≡ Name (codes "check")) (p : pare
   start_small : (front : List Token) → Start small_body front → Start small_check (word ∷ paren ∷ front)
   start_small front start = record { more = start.more; item = (word.spot, start.item); is = (words_behind word paren start.item (front ++ start.more) w p start.is.0, start.is.1) }
 
-  inside_over : (rest : List Token) (fault : Fault) → Inside check_body_at check_body small_body rest fault → Over check_words small_check check_at (word ∷ paren ∷ rest) fault
+  inside_over : (rest : List Token) (fault : ReadFault) → Inside check_body_at check_body small_body rest fault → Over schemas check_words small_check check_at (word ∷ paren ∷ rest) fault
   inside_over rest fault over = record {
     front = word ∷ paren ∷ over.front;
     element = over.element;
@@ -134,7 +137,7 @@ module _ (word paren : Token) (w : word.kind ≡ Name (codes "check")) (p : pare
         ∙ ap (λ (r : Read Rule). r >>= λ rule r3. Ok ((word.spot, rule), r3)) (over.again (length (word ∷ paren ∷ (over.front ++ over.element ++ last))) last);
   }
 
-  loose_stuck : (rest : List Token) (fault : Fault) → Loose check_body_at (such_body (λ _. Unit {0})) rest fault → Stuck check_words small_check check_at (word ∷ paren ∷ rest) fault
+  loose_stuck : (rest : List Token) (fault : ReadFault) → Loose check_body_at (such_body (λ _. Unit {0})) rest fault → Stuck schemas check_words small_check check_at (word ∷ paren ∷ rest) fault
   loose_stuck rest fault loose = record {
     front = word ∷ paren ∷ loose.front;
     rest = loose.rest;
@@ -176,7 +179,7 @@ module _ (word paren : Token) (w : word.kind ≡ Name (codes "check")) (p : pare
       by_rule (Different col) is = absurd is.1
       by_rule (Refers col table target) is = absurd is.1
 
-  unfit_over : (rest : List Token) (fault : Fault) → Unfit check_body_at (such_body Unfitting) (length (word ∷ paren ∷ rest)) rest fault → Over check_words small_check check_at (word ∷ paren ∷ rest) fault
+  unfit_over : (rest : List Token) (fault : ReadFault) → Unfit check_body_at (such_body Unfitting) (length (word ∷ paren ∷ rest)) rest fault → Over schemas check_words small_check check_at (word ∷ paren ∷ rest) fault
   unfit_over rest fault unfit = record {
     front = [];
     element = word ∷ paren ∷ unfit.front;
@@ -199,7 +202,7 @@ module _ (word paren : Token) (w : word.kind ≡ Name (codes "check")) (p : pare
       by_rule (Different col) is = absurd is.1
       by_rule (Refers col table target) is = absurd is.1
 
-pub check_law : Limited anything check_words small_check check_at
+pub check_law : Limited schemas anything check_words small_check check_at
 check_law = record {
   inside = λ d l is. is.0;
   some = (told 0).some;
@@ -214,14 +217,14 @@ check_law = record {
   fails = λ tokens fault e. by_fault tokens fault ((told (length tokens)).fails tokens fault (sym (check_is tokens) ∙ e));
 }
   where
-    by_trouble : (word paren : Token) → word.kind ≡ Name (codes "check") → paren.kind ≡ Mark LeftParen → (rest : List Token) (fault : Fault) → BodyTrouble (length (word ∷ paren ∷ rest)) rest fault
-        → Stuck check_words small_check check_at (word ∷ paren ∷ rest) fault ⊎ Over check_words small_check check_at (word ∷ paren ∷ rest) fault
+    by_trouble : (word paren : Token) → word.kind ≡ Name (codes "check") → paren.kind ≡ Mark LeftParen → (rest : List Token) (fault : ReadFault) → BodyTrouble (length (word ∷ paren ∷ rest)) rest fault
+        → Stuck schemas check_words small_check check_at (word ∷ paren ∷ rest) fault ⊎ Over schemas check_words small_check check_at (word ∷ paren ∷ rest) fault
     by_trouble word paren w p rest fault (IsInside over) = inr (inside_over word paren w p rest fault over)
     by_trouble word paren w p rest fault (IsLoose loose) = inl (loose_stuck word paren w p rest fault loose)
     by_trouble word paren w p rest fault (IsUnfit unfit) = inr (unfit_over word paren w p rest fault unfit)
 
-    by_fault : (tokens : List Token) (fault : Fault) → Stuck check_words small_check (told_check_at (length tokens)) tokens fault ⊎ BehindWord (length tokens) tokens fault
-        → Stuck check_words small_check check_at tokens fault ⊎ Over check_words small_check check_at tokens fault
+    by_fault : (tokens : List Token) (fault : ReadFault) → Stuck schemas check_words small_check (told_check_at (length tokens)) tokens fault ⊎ BehindWord (length tokens) tokens fault
+        → Stuck schemas check_words small_check check_at tokens fault ⊎ Over schemas check_words small_check check_at tokens fault
     by_fault tokens fault (inl stuck) = inl (record {
       front = stuck.front;
       rest = stuck.rest;
@@ -234,5 +237,5 @@ check_law = record {
     })
     by_fault tokens fault (inr b) =
         let whole : tokens ≡ b.word ∷ b.more.paren ∷ b.more.rest = b.whole ∙ ap (λ l. b.word ∷ l) b.more.whole in
-        subst (λ t. Stuck check_words small_check check_at t fault ⊎ Over check_words small_check check_at t fault) (sym whole)
+        subst (λ t. Stuck schemas check_words small_check check_at t fault ⊎ Over schemas check_words small_check check_at t fault) (sym whole)
         (by_trouble b.word b.more.paren b.is b.more.is b.more.rest fault (subst (λ n. BodyTrouble n b.more.rest fault) (ap length whole) b.more.trouble))

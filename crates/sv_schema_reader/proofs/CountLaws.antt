@@ -9,9 +9,10 @@ use Rattle.sv_app.specs.declared.schemas.Kind.{Kind}
 use Rattle.sv_app.specs.declared.schemas.Kind.TheVariants as kinds
 use Rattle.sv_app.specs.declared.schemas.Table.{Table}
 use Rattle.sv_app.specs.Schema.{Declaration, invariant_of, declaration_of, schema_of}
-use Rattle.sv_schema_reader.specs.Reading.{Read, ◌>>=◌, refuse, is_next, token_at, kind_at, by_word, kind_named, table_kind_at, table_at, begins_table, invs_in, table_step, schema_at}
+use Rattle.sv_reader.specs.Reading.{Read, ◌>>=◌, refuse, is_next, token_at, kind_at, by_word}
+use Rattle.sv_schema_reader.specs.Reading.{kind_named, table_kind_at, table_at, begins_table, invs_in, table_step, schema_at}
 use Rattle.sv_schema_reader.proofs.ItemStepLaws.{kind_misread}
-use Rattle.sv_schema_reader.proofs.ReadLaws.{then_ok, then_err}
+use Rattle.sv_reader.proofs.AnswerLaws.{then_ok, then_err}
 use Rattle.sv_schema_reader.proofs.SchemaLaws.{invs_more}
 
 pub counted : (tables : List Table) (table : Table) → invs_in (schema_of (tables ++ table ∷ [])) ≡ invs_in (schema_of tables) + length table.invs.items

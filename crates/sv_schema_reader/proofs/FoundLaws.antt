@@ -1,21 +1,24 @@
 -- Reading equals the grammar: what is read is in it, what is in it is read, and where it is refused.
 use Rattle.std.proofs.Common.{◌≡◌, ◌∙◌, ℕ, ◌+◌, ◌-◌, ◌≤◌, ◌⊎◌, inl, inr, Bool, true, false, List, [], ◌∷◌, ◌++◌, length, take, drop, Ok, Err, refl, sym, ap, subst, arith, append_assoc, append-nil}
-use Rattle.std.proofs.lemmas.List.{length-append, length-drop, drop-drop, take_all}
-use Rattle.std.proofs.Math.Seq.{take-append_seam, drop-append_seam}
+use Rattle.std.proofs.lemmas.List.{length-append, length-drop, drop-drop}
 use Rattle.sv_value.specs.declared.spots.Spot.{Spot}
 use Rattle.sv_lex.specs.declared.tokens.Token.{Token}
 use Rattle.sv_app.specs.declared.refusals.Code.TheVariants.{Syntax, Many}
 use Rattle.sv_app.specs.Schema.{Declaration}
-use Rattle.sv_schema_reader.specs.declared.faults.Fault.{Fault}
+use Rattle.sv_reader.specs.declared.faults.ReadFault.{ReadFault}
 use Rattle.sv_schema_reader.specs.Declarations.{declared, all_declared}
 use Rattle.sv_schema_reader.specs.Grammar.{Written, table, tables, schema}
 use Rattle.sv_schema_reader.specs.Limits.{AreSmall}
-use Rattle.sv_schema_reader.specs.Reading.{Read, refuse, begins_table, schema_at, IsLeft}
-use Rattle.sv_schema_reader.specs.Refused.{spot_of, Begins, BeginsSmall, PassesNone, IsMisplaced, IsTooMany, IsRefused, BeginsTable, IsRead}
-use Rattle.sv_schema_reader.proofs.MadeLaws.{Made}
-use Rattle.sv_schema_reader.proofs.ReadLaws.{Alike, alike_same, same_read, Start, Open, Took, Stuck, Over, Passes, element_some}
+use Rattle.sv_reader.specs.Reading.{Read, refuse, IsLeft}
+use Rattle.sv_schema_reader.specs.Reading.{begins_table, schema_at}
+use Rattle.sv_reader.specs.Places.{spot_of}
+use Rattle.sv_schema_reader.specs.Refused.{Begins, BeginsSmall, PassesNone, IsMisplaced, IsTooMany, IsRefused, BeginsTable, IsRead}
+use Rattle.sv_reader.proofs.MadeLaws.{Made}
+use Rattle.sv_reader.proofs.AnswerLaws.{Alike, alike_same, same_read, many_syntax}
+use Rattle.sv_reader.proofs.ReadLaws.{Start, Open, Took, Stuck, Over, Passes}
 use Rattle.sv_schema_reader.proofs.SchemaLaws.{small_schema, schema_law, start_table, table_opens, opens_table}
-use Rattle.sv_schema_reader.proofs.TroubleLaws.{many_syntax}
+use Rattle.sv_schema_reader.proofs.MatterLaws.{schemas}
+use Rattle.sv_reader.proofs.CutLaws.{cut_at}
 
 abbrev Whole : List Declaration → List Token → Type 0
 Whole = Made all_declared schema
@@ -38,23 +41,6 @@ table_none [] e never = never
 table_none (token ∷ others) e opens = let bad : true ≡ false = sym (opens_table token others opens) ∙ e in absurd cc
 
 -- what is read
-
--- the first tokens, and the others
-pub record Cut (tokens : List Token) (left : ℕ) (front rest : List Token) : Type 0 where
-  pub whole : tokens ≡ front ++ rest
-  pub fits : left ≤ length tokens
-  pub first : take (length tokens - left) tokens ≡ front
-  pub last : drop (length tokens - left) tokens ≡ rest
-
-cut_at : (front rest tokens : List Token) (left : ℕ) → tokens ≡ front ++ rest → length rest ≡ left → Cut tokens left front rest
-cut_at front rest tokens left whole e =
-    let all : length tokens ≡ length front + length rest = ap length whole ∙ length-append front rest in
-    let n : length tokens - left ≡ length front = omega (arith, all, e) in record {
-      whole = whole;
-      fits = omega (arith, all, e);
-      first = (λ i. take (n i) (whole i)) ∙ take-append_seam front rest;
-      last = (λ i. drop (n i) (whole i)) ∙ drop-append_seam front rest;
-    }
 
 -- one table more
 
@@ -132,7 +118,7 @@ all_found front rest ts is small ends = schema_law.reads (all_declared ts) front
 
 -- where tokens are refused
 
-passes_none : (front : List Token) → Open SmallWhole front → PassesNone front
+passes_none : (front : List Token) → Open schemas SmallWhole front → PassesNone front
 passes_none front opened = record {
   front = opened.shorter;
   part = opened.part;
@@ -151,7 +137,7 @@ not_stuck front last ts is ends e = by_read (schema_law.all (all_declared ts) fr
     by_read (inl a) = let bad : ◌≡◌ {A = Read (List Declaration)} (Ok (all_declared ts, last)) (refuse Syntax last) = sym a ∙ e in absurd cc
     by_read (inr many) = many_syntax many.left (length last) (sym many.is ∙ e)
 
-misplaced : (tokens : List Token) (end : Spot) (fault : Fault) → Stuck Whole SmallWhole schema_at tokens fault
+misplaced : (tokens : List Token) (end : Spot) (fault : ReadFault) → Stuck schemas Whole SmallWhole schema_at tokens fault
     → IsMisplaced tokens end (record { spot = spot_of end (drop (length tokens - fault.left) tokens); code = fault.code })
 misplaced tokens end fault stuck =
     let left : fault.left ≡ length stuck.rest = λ i. (stuck.place i).left in
@@ -186,13 +172,13 @@ misplaced tokens end fault stuck =
             by_read (inl a) = let bad : ◌≡◌ {A = Read (List Declaration)} (Ok (all_declared begins.tables, [])) (refuse Syntax last) = sym a ∙ ap schema_at same ∙ e in absurd cc
             by_read (inr many) = many_syntax many.left (length last) (sym many.is ∙ ap schema_at same ∙ e)
 
-too_many : (tokens : List Token) (end : Spot) (fault : Fault) → Over Whole SmallWhole schema_at tokens fault
+too_many : (tokens : List Token) (end : Spot) (fault : ReadFault) → Over schemas Whole SmallWhole schema_at tokens fault
     → IsTooMany tokens end (record { spot = spot_of end (drop (length tokens - fault.left) tokens); code = fault.code })
 too_many tokens end fault over =
     let left : fault.left ≡ length (over.element ++ over.rest) = λ i. (over.place i).left in
     let cut = cut_at over.front (over.element ++ over.rest) tokens fault.left (over.whole ∙ append_assoc over.front over.element over.rest) (sym left) in
-    let some = element_some over.is in
-    let spot : spot_of end (over.element ++ over.rest) ≡ spot_of end over.element = subst (λ l. spot_of end (l ++ over.rest) ≡ spot_of end l) (sym some.2) refl in record {
+    let some = schemas.headed over.element over.is in
+    let spot : spot_of end (over.element ++ over.rest) ≡ spot_of end over.element = subst (λ l. spot_of end (l ++ over.rest) ≡ spot_of end l) (sym some.whole) refl in record {
       front = over.front;
       element = over.element;
       rest = over.rest;
@@ -211,10 +197,10 @@ too_many tokens end fault over =
         = sym read ∙ ap schema_at (append-nil (over.front ++ over.element ++ small.more)) ∙ over.again small.more in
         absurd cc
 
-pub refused : (tokens : List Token) (end : Spot) (fault : Fault) → schema_at tokens ≡ Err fault → IsRefused tokens end (record { spot = spot_of end (drop (length tokens - fault.left) tokens); code = fault.code })
+pub refused : (tokens : List Token) (end : Spot) (fault : ReadFault) → schema_at tokens ≡ Err fault → IsRefused tokens end (record { spot = spot_of end (drop (length tokens - fault.left) tokens); code = fault.code })
 refused tokens end fault e = by_fault (schema_law.fails tokens fault e)
   where
-    by_fault : Stuck Whole SmallWhole schema_at tokens fault ⊎ Over Whole SmallWhole schema_at tokens fault → IsRefused tokens end (record { spot = spot_of end (drop (length tokens - fault.left) tokens); code = fault.code })
+    by_fault : Stuck schemas Whole SmallWhole schema_at tokens fault ⊎ Over schemas Whole SmallWhole schema_at tokens fault → IsRefused tokens end (record { spot = spot_of end (drop (length tokens - fault.left) tokens); code = fault.code })
     by_fault (inl stuck) = inl (misplaced tokens end fault stuck)
     by_fault (inr over) = inr (too_many tokens end fault over)
 
@@ -244,10 +230,6 @@ found_at tokens at ds left le is =
     }
 
 -- what is refused is no schema that keeps the limits
-pub refused_none : (tokens front rest : List Token) (ts : List Written) (fault : Fault) → schema_at tokens ≡ Err fault → tokens ≡ front ++ rest → schema ts front → AreSmall ts → (BeginsTable rest → ⊥) → ⊥
+pub refused_none : (tokens front rest : List Token) (ts : List Written) (fault : ReadFault) → schema_at tokens ≡ Err fault → tokens ≡ front ++ rest → schema ts front → AreSmall ts → (BeginsTable rest → ⊥) → ⊥
 refused_none tokens front rest ts fault e whole written small ends =
     let bad : ◌≡◌ {A = Read (List Declaration)} (Ok (all_declared ts, rest)) (Err fault) = sym (all_found front rest ts written small ends) ∙ ap schema_at (sym whole) ∙ e in absurd cc
-
--- all that stands behind a place
-pub whole_drop : (tokens : List Token) (at : ℕ) → take (length tokens - at) (drop at tokens) ≡ drop at tokens
-whole_drop tokens at = take_all (length tokens - at) (drop at tokens) (let n : length (drop at tokens) ≡ length tokens - at = length-drop at tokens in omega (arith, n))

@@ -8,26 +8,31 @@ use Rattle.sv_lex.specs.declared.tokens.TokenKind.TheVariants.{Name, Mark}
 use Rattle.sv_app.specs.declared.apps.Ident.{Ident}
 use Rattle.sv_app.specs.Schema.{Bound, OneOf, Different, Refers}
 use Rattle.sv_app.specs.Words.{is_reserved}
-use Rattle.sv_schema_reader.specs.Grammar.{◌·◌, word, word_at, mark, IsName, name, column, invariant, Item, Field, Key, Demand, item}
+use Rattle.sv_reader.specs.Grammar.{◌·◌, word, word_at, mark, IsName, name}
+use Rattle.sv_schema_reader.specs.Grammar.{column, invariant, Item, Field, Key, Demand, item}
 use Rattle.sv_schema_reader.specs.Limits.{IsSmallRule, IsSmallItem}
-use Rattle.sv_schema_reader.specs.Reading.{Read, ◌>>=◌, given, is_kind, is_next, is_name, is_some, name_of, ident_of, column_at, key_at, Demanded, unique_at, foreign_at, demanded_at, demands}
+use Rattle.sv_reader.specs.Reading.{Read, ◌>>=◌, given, is_kind, is_next, is_name, is_some, name_of, ident_of}
+use Rattle.sv_schema_reader.specs.Reading.{column_at, key_at, Demanded, unique_at, foreign_at, demanded_at, demands}
 use Rattle.sv_schema_reader.proofs.BodyLaws.{check_body}
 use Rattle.sv_schema_reader.proofs.CheckedLaws.{check_words, small_check, check_law}
-use Rattle.sv_schema_reader.proofs.MadeLaws.{Made, placed, kind_law, take_plain, take_last_limited, skip_plain, skip_last}
-use Rattle.sv_schema_reader.proofs.PartLaws.{is_named, next_alike, name_law, column_law, kind_next}
-use Rattle.sv_schema_reader.proofs.ReadLaws.{Alike, Plain, Limited, anything, Either, Left, Right, limited, same_limited, either_limited, any_clash}
+use Rattle.sv_reader.proofs.MadeLaws.{Made, placed, kind_law, take_plain, take_last_limited, skip_plain, skip_last}
+use Rattle.sv_reader.proofs.AnswerLaws.{next_alike, Alike, anything}
+use Rattle.sv_reader.proofs.PartLaws.{is_named, name_law, kind_next}
+use Rattle.sv_schema_reader.proofs.PartLaws.{column_law}
+use Rattle.sv_reader.proofs.ReadLaws.{Plain, Limited, Either, Left, Right, limited, same_limited, either_limited, any_clash}
 use Rattle.sv_schema_reader.proofs.SideLaws.{key_written, key_law}
+use Rattle.sv_schema_reader.proofs.MatterLaws.{schemas}
 
 -- invariants by their first words
 
 abbrev unique_words : Demanded → List Token → Type 0
 unique_words d = Made (λ (x : Spot × (Ident × Unit {0})). let e : Demanded = (x.0, Different x.1.0) in e) (λ x. placed (Name (codes "unique")) x.0 · mark LeftParen · name x.1.0 · mark RightParen) d
 
-unique_law : Plain anything unique_words unique_at
+unique_law : Plain schemas anything unique_words unique_at
 unfolding unique_at
-unique_law = take_plain (λ spot (x : Ident × Unit {0}). let e : Demanded = (spot, Different x.0) in e) (kind_law anything (Name (codes "unique")))
+unique_law = take_plain (λ spot (x : Ident × Unit {0}). let e : Demanded = (spot, Different x.0) in e) (kind_law schemas anything (Name (codes "unique")))
     (λ spot. skip_plain (Mark LeftParen) (λ (x : Ident × Unit {0}). let e : Demanded = (spot, Different x.0) in e)
-    (take_plain (λ col (_ : Unit {0}). let e : Demanded = (spot, Different col) in e) (name_law anything) (λ col. skip_last {B = Demanded} anything (Mark RightParen) (spot, Different col))))
+    (take_plain (λ col (_ : Unit {0}). let e : Demanded = (spot, Different col) in e) (name_law schemas anything) (λ col. skip_last schemas {B = Demanded} anything (Mark RightParen) (spot, Different col))))
 
 abbrev Foreign : Type 0
 Foreign = Spot × (Ident × (Ident × (Ident × Unit {0})))
@@ -39,15 +44,15 @@ abbrev foreign_words : Demanded → List Token → Type 0
 foreign_words = Made foreign_of (λ x. placed (Name (codes "foreign")) x.0 · word (codes "key") · mark LeftParen · name x.1.0 · mark RightParen
     · word (codes "references") · name x.1.1.0 · mark LeftParen · name x.1.1.1.0 · mark RightParen)
 
-foreign_law : Plain anything foreign_words foreign_at
+foreign_law : Plain schemas anything foreign_words foreign_at
 unfolding foreign_at
-foreign_law = take_plain (λ spot (x : Ident × (Ident × (Ident × Unit {0}))). foreign_of (spot, x)) (kind_law anything (Name (codes "foreign")))
+foreign_law = take_plain (λ spot (x : Ident × (Ident × (Ident × Unit {0}))). foreign_of (spot, x)) (kind_law schemas anything (Name (codes "foreign")))
     (λ spot. skip_plain (Name (codes "key")) (λ (x : Ident × (Ident × (Ident × Unit {0}))). foreign_of (spot, x)) (skip_plain (Mark LeftParen) (λ (x : Ident × (Ident × (Ident × Unit {0}))). foreign_of (spot, x))
-    (take_plain (λ col (x : Ident × (Ident × Unit {0})). foreign_of (spot, (col, x))) (name_law anything)
+    (take_plain (λ col (x : Ident × (Ident × Unit {0})). foreign_of (spot, (col, x))) (name_law schemas anything)
     (λ col. skip_plain (Mark RightParen) (λ (x : Ident × (Ident × Unit {0})). foreign_of (spot, (col, x))) (skip_plain (Name (codes "references")) (λ (x : Ident × (Ident × Unit {0})). foreign_of (spot, (col, x)))
-    (take_plain (λ table (x : Ident × Unit {0}). foreign_of (spot, (col, (table, x)))) (name_law anything)
+    (take_plain (λ table (x : Ident × Unit {0}). foreign_of (spot, (col, (table, x)))) (name_law schemas anything)
     (λ table. skip_plain (Mark LeftParen) (λ (x : Ident × Unit {0}). foreign_of (spot, (col, (table, x))))
-    (take_plain (λ target (_ : Unit {0}). foreign_of (spot, (col, (table, (target, tt))))) (name_law anything) (λ target. skip_last {B = Demanded} anything (Mark RightParen) (spot, Refers col table target))))))))))
+    (take_plain (λ target (_ : Unit {0}). foreign_of (spot, (col, (table, (target, tt))))) (name_law schemas anything) (λ target. skip_last schemas {B = Demanded} anything (Mark RightParen) (spot, Refers col table target))))))))))
 
 -- which word comes first
 
@@ -66,7 +71,7 @@ all_words = Either unique_words rest_words
 abbrev small_words : Demanded → List Token → Type 0
 small_words = Either unique_words (Either small_check foreign_words)
 
-words_law : Limited anything all_words small_words demanded_at
+words_law : Limited schemas anything all_words small_words demanded_at
 unfolding demanded_at
 words_law = either_limited (is_next (Name (codes "unique"))) (next_kind (Name (codes "unique"))) (limited unique_law)
     (either_limited (is_next (Name (codes "check"))) (next_kind (Name (codes "check"))) check_law (limited foreign_law)
@@ -115,7 +120,7 @@ small_out (spot, Bound check) l is = Right (Left is)
 small_out (spot, OneOf col texts) l is = Right (Left is)
 small_out (spot, Refers col table target) l is = Right (Right (record { «from» = (spot, (col, (table, (target, tt)))); is = is.0; made = refl }))
 
-pub demanded_law : Limited anything demanded small_demanded demanded_at
+pub demanded_law : Limited schemas anything demanded small_demanded demanded_at
 demanded_law = same_limited words_law all_in all_out small_in small_out
 
 -- items
@@ -195,7 +200,7 @@ rest_items = Either (Made key_item key_written) (Made demand_item demanded)
 abbrev small_rest_items : Item → List Token → Type 0
 small_rest_items = Either (Made key_item key_written) (Made demand_item small_demanded)
 
-rest_law : Limited (is_next (Mark At)) rest_items small_rest_items
+rest_law : Limited schemas (is_next (Mark At)) rest_items small_rest_items
     (λ tokens. if is_next (Name (codes "primary")) tokens then (key_at tokens >>= λ key r. Ok (Key key.0 key.1, r)) else (demanded_at tokens >>= λ d r. Ok (Demand d.0 d.1, r)))
 rest_law = either_limited (is_next (Name (codes "primary"))) (next_kind (Name (codes "primary")))
     (any_clash (is_next (Mark At)) (take_last_limited key_item (limited key_law))) (any_clash (is_next (Mark At)) (take_last_limited demand_item demanded_law))
@@ -210,7 +215,7 @@ rest_no_name : (x : Item) (front rest : List Token) → rest_items x front → i
 rest_no_name x front rest (Left m) = begun_test is_name (key_item m.«from») front rest false m.is (λ token l f. key_no_name token f)
 rest_no_name x front rest (Right m) = begun_test is_name (demand_item m.«from») front rest false m.is (λ token l f. demand_no_name (demand_item m.«from») token f)
 
-pub item_law : Limited (is_next (Mark At)) item small_item item_at
+pub item_law : Limited schemas (is_next (Mark At)) item small_item item_at
 item_law = same_limited
     (either_limited is_name (next_alike (λ token. is_some (name_of token))) (take_last_limited Field (limited column_law)) rest_law
     (λ x front rest m. begun_test is_name (Field m.«from») front rest true m.is (λ token l f. f))

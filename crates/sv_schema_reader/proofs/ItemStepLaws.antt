@@ -11,16 +11,20 @@ use Rattle.sv_app.specs.declared.schemas.Merge.TheVariants as merges
 use Rattle.sv_app.specs.declared.schemas.Ty.TheVariants as types
 use Rattle.sv_app.specs.Schema.{Rule, Bound, OneOf, Different, Refers, Declaration}
 use Rattle.sv_app.specs.Words.{is_reserved}
-use Rattle.sv_schema_reader.specs.Grammar.{Both, kind, word_at, IsName, name, Item, Field, Key, Demand, item}
-use Rattle.sv_schema_reader.specs.Reading.{Read, ◌>>=◌, refuse, found_at, given, is_kind, is_next, is_name, is_some, name_of, ident_of, kind_at, column_at, key_at, unique_at, check_at, foreign_at, demanded_at, demands, Demanded, with_column, with_key, with_rule, item_step}
+use Rattle.sv_reader.specs.Grammar.{Both, kind, word_at, IsName, name}
+use Rattle.sv_schema_reader.specs.Grammar.{Item, Field, Key, Demand, item}
+use Rattle.sv_reader.specs.Reading.{Read, ◌>>=◌, refuse, found_at, given, is_kind, is_next, is_name, is_some, name_of, ident_of, kind_at}
+use Rattle.sv_schema_reader.specs.Reading.{column_at, key_at, unique_at, check_at, foreign_at, demanded_at, demands, Demanded, with_column, with_key, with_rule, item_step}
 use Rattle.sv_schema_reader.specs.Refused.{IsFirst}
 use Rattle.sv_schema_reader.proofs.BodyLaws.{check_body, small_body, body_law}
 use Rattle.sv_schema_reader.proofs.CheckedLaws.{words_behind}
-use Rattle.sv_schema_reader.proofs.KindLaws.{kind_is, token_of}
+use Rattle.sv_reader.proofs.KindLaws.{kind_is, token_of}
 use Rattle.sv_schema_reader.proofs.ItemLaws.{FirstOf, next_kind, item_at, small_item, item_law, begun, begun_test, demand_demands, demand_no_name, demand_no_key, key_no_name}
-use Rattle.sv_schema_reader.proofs.PartLaws.{next_alike, name_is}
-use Rattle.sv_schema_reader.proofs.ReadLaws.{Alike, Start, then_err}
-use Rattle.sv_schema_reader.proofs.StepLaws.{Stepping, one_step}
+use Rattle.sv_reader.proofs.AnswerLaws.{next_alike, Alike, then_err}
+use Rattle.sv_reader.proofs.PartLaws.{name_is}
+use Rattle.sv_reader.proofs.ReadLaws.{Start}
+use Rattle.sv_reader.proofs.StepLaws.{Stepping, one_step}
+use Rattle.sv_schema_reader.proofs.MatterLaws.{schemas}
 
 abbrev pub add_item : ℕ → Declaration → Item → Declaration
 add_item count d (Field c) = with_column d c
@@ -181,7 +185,7 @@ no_comma x token l is e = let b = begun x (token ∷ l) is in
     by_item (Demand spot rule) t (inr (inl f)) e = let bad : Name (codes "check") ≡ Mark Comma = sym f ∙ e in absurd cc
     by_item (Demand spot rule) t (inr (inr f)) e = let bad : Name (codes "foreign") ≡ Mark Comma = sym f ∙ e in absurd cc
 
-pub item_stepping : Stepping (is_next (Mark At)) more_items (λ _. item_at) (λ _. item) (λ _. small_item) ItemRoom
+pub item_stepping : Stepping schemas (is_next (Mark At)) more_items (λ _. item_at) (λ _. item) (λ _. small_item) ItemRoom
 item_stepping = record {
   alike = more_alike;
   law = λ d. item_law;

@@ -1,40 +1,20 @@
 -- One turn more of a loop that reads elements behind commas, or tables.
-use Rattle.std.proofs.Common.{◌≡◌, ◌∙◌, ℕ, ◌<◌, Bool, true, false, List, length, Ok, Err, refl, sym, ap, subst}
+use Rattle.std.proofs.Common.{◌≡◌, ℕ, ◌<◌, true, false, List, length, Ok, Err, refl, sym, ap, subst}
 use Rattle.sv_value.specs.declared.spots.Spot.{Spot}
 use Rattle.sv_lex.specs.declared.marks.Mark.TheVariants.{RightParen, Comma, At}
 use Rattle.sv_lex.specs.declared.tokens.Token.{Token}
 use Rattle.sv_lex.specs.declared.tokens.TokenKind.TheVariants.{Mark}
 use Rattle.sv_app.specs.Schema.{Declaration}
-use Rattle.sv_schema_reader.specs.declared.faults.Fault.{Fault}
-use Rattle.sv_schema_reader.specs.Reading.{Read, is_kind, is_next, kind_at, turns_at, comma_turn, closed_at, others_at, text_step, item_step, begins_table, table_step, tables_at}
+use Rattle.sv_reader.specs.declared.faults.ReadFault.{ReadFault}
+use Rattle.sv_reader.specs.Reading.{Read, is_kind, is_next, kind_at, turns_at, others_at}
+use Rattle.sv_schema_reader.specs.Reading.{text_step, item_step, begins_table, table_step, tables_at}
 use Rattle.sv_schema_reader.proofs.ItemStepLaws.{add_item, item_stepping, item_step_is}
-use Rattle.sv_schema_reader.proofs.ReadLaws.{anything, then_ok, then_err}
 use Rattle.sv_schema_reader.proofs.SchemaLaws.{table_stepping, table_turning, keep, step_is as table_step_is}
-use Rattle.sv_schema_reader.proofs.StepLaws.{one_step, comma_turning}
-use Rattle.sv_schema_reader.proofs.TextLaws.{snoc, text_stepping, step_is as text_step_is}
-use Rattle.sv_schema_reader.proofs.TurnLaws.{Turning, shorter, turn_read, turn_err, end_read}
-
--- what one turn more does, and the end
-pub record Loops {S : Type 0} (step : S → List Token → Read S) : Type 0 where
-  pub more : (s : S) (tokens : List Token) (spot : Spot) (r : List Token) (m : S) (rest : List Token) → is_next (Mark Comma) tokens ≡ true → kind_at (Mark Comma) tokens ≡ Ok (spot, r) → step s r ≡ Ok (m, rest)
-      → others_at step s tokens ≡ others_at step m rest
-  pub less : (s : S) (tokens : List Token) (spot : Spot) (r : List Token) (m : S) (rest : List Token) → is_next (Mark Comma) tokens ≡ true → kind_at (Mark Comma) tokens ≡ Ok (spot, r) → step s r ≡ Ok (m, rest)
-      → length rest < length tokens
-  pub comma_err : (s : S) (tokens : List Token) (fault : Fault) → is_next (Mark Comma) tokens ≡ true → kind_at (Mark Comma) tokens ≡ Err fault → others_at step s tokens ≡ Err fault
-  pub step_err : (s : S) (tokens : List Token) (spot : Spot) (r : List Token) (fault : Fault) → is_next (Mark Comma) tokens ≡ true → kind_at (Mark Comma) tokens ≡ Ok (spot, r) → step s r ≡ Err fault → others_at step s tokens ≡ Err fault
-  pub close : (s : S) (tokens : List Token) (spot : Spot) (r : List Token) → is_next (Mark Comma) tokens ≡ false → kind_at (Mark RightParen) tokens ≡ Ok (spot, r) → others_at step s tokens ≡ Ok (s, r)
-  pub close_err : (s : S) (tokens : List Token) (fault : Fault) → is_next (Mark Comma) tokens ≡ false → kind_at (Mark RightParen) tokens ≡ Err fault → others_at step s tokens ≡ Err fault
-
-pub loops_of : {S : Type 0} {before : List Token → Bool} {step : S → List Token → Read S} {T TS : S → S → List Token → Type 0} {E : List Token → Type 0}
-    → Turning before anything (is_next (Mark Comma)) (comma_turn step) closed_at T TS E → Loops step
-loops_of {S} {before} {step} law = record {
-  more = λ s tokens spot r m rest t k e. turn_read law s tokens m rest t (then_ok (λ _ x. step s x) k ∙ e);
-  less = λ s tokens spot r m rest t k e. shorter law s tokens m rest t (then_ok (λ _ x. step s x) k ∙ e);
-  comma_err = λ s tokens fault t k. turn_err law s tokens fault t (then_err (λ _ x. step s x) k);
-  step_err = λ s tokens spot r fault t k e. turn_err law s tokens fault t (then_ok (λ _ x. step s x) k ∙ e);
-  close = λ s tokens spot r t k. end_read law s tokens t ∙ then_ok (λ _ x. Ok (s, x)) k;
-  close_err = λ s tokens fault t k. end_read law s tokens t ∙ then_err (λ _ x. Ok (s, x)) k;
-}
+use Rattle.sv_reader.proofs.StepLaws.{one_step, comma_turning}
+use Rattle.sv_reader.proofs.ListLaws.{snoc}
+use Rattle.sv_schema_reader.proofs.TextLaws.{text_stepping, step_is as text_step_is}
+use Rattle.sv_reader.proofs.TurnLaws.{shorter, turn_read, turn_err, end_read}
+use Rattle.sv_reader.proofs.LoopLaws.{Loops, loops_of}
 
 text_loops : Loops text_step
 text_loops = subst (λ step. Loops step) (λ i texts tokens. sym (text_step_is texts tokens) i) (loops_of (comma_turning text_stepping snoc (λ token l e. refl) (λ token l e. refl)))
@@ -53,17 +33,17 @@ pub text_less : (s : List (List ℕ)) (tokens : List Token) (spot : Spot) (r : L
     → is_next (Mark Comma) tokens ≡ true → kind_at (Mark Comma) tokens ≡ Ok (spot, r) → text_step s r ≡ Ok (m, rest) → length rest < length tokens
 text_less s tokens spot r m rest t k e = text_loops.less s tokens spot r m rest t k e
 
-pub text_comma_err : (s : List (List ℕ)) (tokens : List Token) (fault : Fault) → is_next (Mark Comma) tokens ≡ true → kind_at (Mark Comma) tokens ≡ Err fault → others_at text_step s tokens ≡ Err fault
+pub text_comma_err : (s : List (List ℕ)) (tokens : List Token) (fault : ReadFault) → is_next (Mark Comma) tokens ≡ true → kind_at (Mark Comma) tokens ≡ Err fault → others_at text_step s tokens ≡ Err fault
 text_comma_err s tokens fault t k = text_loops.comma_err s tokens fault t k
 
-pub text_step_err : (s : List (List ℕ)) (tokens : List Token) (spot : Spot) (r : List Token) (fault : Fault)
+pub text_step_err : (s : List (List ℕ)) (tokens : List Token) (spot : Spot) (r : List Token) (fault : ReadFault)
     → is_next (Mark Comma) tokens ≡ true → kind_at (Mark Comma) tokens ≡ Ok (spot, r) → text_step s r ≡ Err fault → others_at text_step s tokens ≡ Err fault
 text_step_err s tokens spot r fault t k e = text_loops.step_err s tokens spot r fault t k e
 
 pub text_close : (s : List (List ℕ)) (tokens : List Token) (spot : Spot) (r : List Token) → is_next (Mark Comma) tokens ≡ false → kind_at (Mark RightParen) tokens ≡ Ok (spot, r) → others_at text_step s tokens ≡ Ok (s, r)
 text_close s tokens spot r t k = text_loops.close s tokens spot r t k
 
-pub text_close_err : (s : List (List ℕ)) (tokens : List Token) (fault : Fault) → is_next (Mark Comma) tokens ≡ false → kind_at (Mark RightParen) tokens ≡ Err fault → others_at text_step s tokens ≡ Err fault
+pub text_close_err : (s : List (List ℕ)) (tokens : List Token) (fault : ReadFault) → is_next (Mark Comma) tokens ≡ false → kind_at (Mark RightParen) tokens ≡ Err fault → others_at text_step s tokens ≡ Err fault
 text_close_err s tokens fault t k = text_loops.close_err s tokens fault t k
 
 -- items
@@ -76,17 +56,17 @@ pub item_less : (count : ℕ) (s : Declaration) (tokens : List Token) (spot : Sp
     → is_next (Mark Comma) tokens ≡ true → kind_at (Mark Comma) tokens ≡ Ok (spot, r) → item_step count s r ≡ Ok (m, rest) → length rest < length tokens
 item_less count s tokens spot r m rest t k e = (item_loops count).less s tokens spot r m rest t k e
 
-pub item_comma_err : (count : ℕ) (s : Declaration) (tokens : List Token) (fault : Fault) → is_next (Mark Comma) tokens ≡ true → kind_at (Mark Comma) tokens ≡ Err fault → others_at (item_step count) s tokens ≡ Err fault
+pub item_comma_err : (count : ℕ) (s : Declaration) (tokens : List Token) (fault : ReadFault) → is_next (Mark Comma) tokens ≡ true → kind_at (Mark Comma) tokens ≡ Err fault → others_at (item_step count) s tokens ≡ Err fault
 item_comma_err count s tokens fault t k = (item_loops count).comma_err s tokens fault t k
 
-pub item_step_err : (count : ℕ) (s : Declaration) (tokens : List Token) (spot : Spot) (r : List Token) (fault : Fault)
+pub item_step_err : (count : ℕ) (s : Declaration) (tokens : List Token) (spot : Spot) (r : List Token) (fault : ReadFault)
     → is_next (Mark Comma) tokens ≡ true → kind_at (Mark Comma) tokens ≡ Ok (spot, r) → item_step count s r ≡ Err fault → others_at (item_step count) s tokens ≡ Err fault
 item_step_err count s tokens spot r fault t k e = (item_loops count).step_err s tokens spot r fault t k e
 
 pub item_close : (count : ℕ) (s : Declaration) (tokens : List Token) (spot : Spot) (r : List Token) → is_next (Mark Comma) tokens ≡ false → kind_at (Mark RightParen) tokens ≡ Ok (spot, r) → others_at (item_step count) s tokens ≡ Ok (s, r)
 item_close count s tokens spot r t k = (item_loops count).close s tokens spot r t k
 
-pub item_close_err : (count : ℕ) (s : Declaration) (tokens : List Token) (fault : Fault) → is_next (Mark Comma) tokens ≡ false → kind_at (Mark RightParen) tokens ≡ Err fault → others_at (item_step count) s tokens ≡ Err fault
+pub item_close_err : (count : ℕ) (s : Declaration) (tokens : List Token) (fault : ReadFault) → is_next (Mark Comma) tokens ≡ false → kind_at (Mark RightParen) tokens ≡ Err fault → others_at (item_step count) s tokens ≡ Err fault
 item_close_err count s tokens fault t k = (item_loops count).close_err s tokens fault t k
 
 -- tables
@@ -103,7 +83,7 @@ pub table_less : (ds : List Declaration) (tokens : List Token) (m : List Declara
 table_less ds tokens m rest t e =
     subst (λ (step : List Declaration → List Token → Read (List Declaration)). step ds tokens ≡ Ok (m, rest) → length rest < length tokens) (sym tables_are) (λ e. shorter table_turning ds tokens m rest t e) e
 
-pub table_err : (ds : List Declaration) (tokens : List Token) (fault : Fault) → begins_table tokens ≡ true → table_step ds tokens ≡ Err fault → tables_at ds tokens ≡ Err fault
+pub table_err : (ds : List Declaration) (tokens : List Token) (fault : ReadFault) → begins_table tokens ≡ true → table_step ds tokens ≡ Err fault → tables_at ds tokens ≡ Err fault
 table_err ds tokens fault t e =
     subst (λ (step : List Declaration → List Token → Read (List Declaration)). step ds tokens ≡ Err fault → turns_at begins_table step keep ds tokens ≡ Err fault) (sym tables_are)
     (λ e. turn_err table_turning ds tokens fault t e) e

@@ -11,22 +11,25 @@ use Rattle.sv_app.specs.declared.schemas.Kind.TheVariants as kinds
 use Rattle.sv_app.specs.declared.schemas.Merge.TheVariants as merges
 use Rattle.sv_app.specs.declared.schemas.Ty.TheVariants as types
 use Rattle.sv_app.specs.Schema.{Declaration}
-use Rattle.sv_schema_reader.specs.declared.faults.Fault.{Fault}
+use Rattle.sv_reader.specs.declared.faults.ReadFault.{ReadFault}
 use Rattle.sv_schema_reader.specs.Declarations.{invariants_of, declared, declared_behind, all_declared}
-use Rattle.sv_schema_reader.specs.Grammar.{◌·◌, nothing, word, name, mark, table_kind, column, Field, item, separated, Written, table, tables, schema}
+use Rattle.sv_reader.specs.Grammar.{◌·◌, nothing, word, name, mark, separated}
+use Rattle.sv_schema_reader.specs.Grammar.{table_kind, column, Field, item, Written, table, tables, schema}
 use Rattle.sv_schema_reader.specs.Limits.{IsSmallTable, AreSmall}
-use Rattle.sv_schema_reader.specs.Reading.{Read, is_kind, table_at, begins_table, invs_in, table_step, schema_at}
+use Rattle.sv_reader.specs.Reading.{Read, is_kind}
+use Rattle.sv_schema_reader.specs.Reading.{table_at, begins_table, invs_in, table_step, schema_at}
 use Rattle.sv_schema_reader.specs.Refused.{IsPart, Empty, IsFirst}
 use Rattle.sv_schema_reader.proofs.ItemLaws.{next_kind}
 use Rattle.sv_schema_reader.proofs.ItemStepLaws.{a_name, name_token, is_a_name, one_kind, both}
-use Rattle.sv_schema_reader.proofs.KindLaws.{kind_is, token_of}
-use Rattle.sv_schema_reader.proofs.ListLaws.{words_map}
-use Rattle.sv_schema_reader.proofs.MadeLaws.{Made, ended}
-use Rattle.sv_schema_reader.proofs.ReadLaws.{Alike, Start, Open, Limited, anything, Then, same_limited, after_limited}
-use Rattle.sv_schema_reader.proofs.StepLaws.{Stepping, one_step, Step, SmallStep, StepStuck, StepOver, step_inside, step_some, step_took, step_reads, step_all, step_fails, first_law}
+use Rattle.sv_reader.proofs.KindLaws.{kind_is, token_of}
+use Rattle.sv_reader.proofs.ListLaws.{words_map, snoc}
+use Rattle.sv_reader.proofs.MadeLaws.{Made, ended}
+use Rattle.sv_reader.proofs.AnswerLaws.{Alike, anything}
+use Rattle.sv_reader.proofs.ReadLaws.{Start, Open, Limited, Then, same_limited, after_limited}
+use Rattle.sv_reader.proofs.StepLaws.{Stepping, one_step, Step, SmallStep, StepStuck, StepOver, step_inside, step_some, step_took, step_reads, step_all, step_fails, first_law}
 use Rattle.sv_schema_reader.proofs.TableLaws.{written, small_table, table_law}
-use Rattle.sv_schema_reader.proofs.TextLaws.{snoc}
-use Rattle.sv_schema_reader.proofs.TurnLaws.{Words, Last, More, TurnStuck, TurnOver, Turning, turns_law}
+use Rattle.sv_reader.proofs.TurnLaws.{Words, Last, More, TurnStuck, TurnOver, Turning, turns_law}
+use Rattle.sv_schema_reader.proofs.MatterLaws.{schemas}
 
 abbrev pub more_tables : List Declaration → List Token → Bool
 more_tables ds tokens = begins_table tokens && nat_le 16 (length ds)
@@ -142,7 +145,7 @@ room : (a : Bool) (n : ℕ) → n < 16 → a && nat_le 16 n ≡ false
 room true n lt = grind (arith, nat_tests, lt)
 room false n lt = refl
 
-pub table_stepping : Stepping anything more_tables (λ ds. table_at (invs_in ds)) AnyTable SmallTable TableRoom
+pub table_stepping : Stepping schemas anything more_tables (λ ds. table_at (invs_in ds)) AnyTable SmallTable TableRoom
 table_stepping = record {
   alike = λ ds a b alike. ap (λ t. t && nat_le 16 (length ds)) (begins_alike a b alike);
   law = λ ds. table_law (invs_in ds);
@@ -173,7 +176,7 @@ SmallOne = SmallStep table_stepping snoc
 abbrev pub keep : List Declaration → List Token → Read (List Declaration)
 keep ds tokens = Ok (ds, tokens)
 
-pub table_turning : Turning anything begins_table begins_table (one_step table_stepping snoc) keep AnyStep SmallOne nothing
+pub table_turning : Turning schemas anything begins_table begins_table (one_step table_stepping snoc) keep AnyStep SmallOne nothing
 table_turning = record {
   alike = begins_alike;
   inside = step_inside table_stepping snoc;
@@ -183,18 +186,18 @@ table_turning = record {
   all = λ s m front rest is clear. step_all table_stepping snoc s m front rest is clear;
   first = λ s m front rest m'. table_begins m'.is.«from» front rest m'.is.is;
   fails = λ s tokens fault t e. by_fault s tokens fault (step_fails table_stepping snoc s tokens fault e);
-  ends = λ s. ended begins_table s;
+  ends = λ s. ended schemas begins_table s;
   stop = λ l rest is clear. ap (λ x. begins_table (x ++ rest)) is ∙ clear;
   near_turn = λ s m front rest is. refl;
   near_end = λ l rest is clear. refl;
 }
   where
-    small : (s : List Declaration) (front : List Token) → Open (SmallOne s) front ⊎ (front ≡ []) → Open (SmallOne s) front ⊎ IsPart [] front
+    small : (s : List Declaration) (front : List Token) → Open schemas (SmallOne s) front ⊎ (front ≡ []) → Open schemas (SmallOne s) front ⊎ IsPart [] front
     small s front (inl opened) = inl opened
     small s front (inr e) = inr (subst (λ l. IsPart [] l) (sym e) (Empty []))
 
-    by_fault : (s : List Declaration) (tokens : List Token) (fault : Fault) → StepStuck table_stepping snoc s tokens fault ⊎ StepOver table_stepping snoc s tokens fault
-        → TurnStuck (AnyStep s) (SmallOne s) (one_step table_stepping snoc s) tokens fault ⊎ TurnOver (AnyStep s) (SmallOne s) (one_step table_stepping snoc s) tokens fault
+    by_fault : (s : List Declaration) (tokens : List Token) (fault : ReadFault) → StepStuck table_stepping snoc s tokens fault ⊎ StepOver table_stepping snoc s tokens fault
+        → TurnStuck schemas (AnyStep s) (SmallOne s) (one_step table_stepping snoc s) tokens fault ⊎ TurnOver schemas (AnyStep s) (SmallOne s) (one_step table_stepping snoc s) tokens fault
     by_fault s tokens fault (inl stuck) = inl (record { front = stuck.front; rest = stuck.rest; whole = stuck.whole; place = stuck.place; small = small s stuck.front stuck.small; begins = stuck.begins; again = stuck.again })
     by_fault s tokens fault (inr over) = inr (record { front = over.front; element = over.element; rest = over.rest; whole = over.whole; place = over.place; is = over.is; small = small s over.front over.small; begins = over.begins; again = over.again })
 
@@ -325,7 +328,7 @@ pub step_is : (ds : List Declaration) (tokens : List Token) → table_step ds to
 unfolding table_step
 step_is ds tokens = refl
 
-pub schema_law : Limited begins_table (Made all_declared schema) (Made all_declared small_schema) schema_at
+pub schema_law : Limited schemas begins_table (Made all_declared schema) (Made all_declared small_schema) schema_at
 unfolding schema_at table_step
 schema_law = same_limited
     (after_limited (first_law table_stepping snoc [] free (λ d. omega arith)) (λ m. turns_law table_turning m) (λ m e tokens rest is ends. refl))

@@ -1,5 +1,5 @@
 -- Keys and the sides of checks: each reading reads just the tokens that the grammar gives.
-use Rattle.std.proofs.Common.{◌≡◌, ◌∙◌, ℤ, pos, neg_ℤ, Bool, true, false, ◌||◌, if◌then◌else◌, List, [], ◌∷◌, ◌++◌, Option, Some, None, Ok, refl, sym, ap, subst, append_assoc, append-nil, codes}
+use Rattle.std.proofs.Common.{◌≡◌, ◌∙◌, ℤ, pos, neg_ℤ, Bool, true, false, ◌||◌, if◌then◌else◌, List, [], ◌∷◌, ◌++◌, Option, Some, None, Ok, refl, sym, ap, subst, append-nil, codes}
 use Rattle.sv_value.specs.declared.spots.Spot.{Spot}
 use Rattle.sv_lex.specs.declared.marks.Mark.{Mark as IsMark}
 use Rattle.sv_lex.specs.declared.marks.Mark.TheVariants.{LeftParen, RightParen, Comma, Lt, Le, Gt, Ge, Plus, Minus}
@@ -11,38 +11,16 @@ use Rattle.sv_app.specs.declared.schemas.Check.{Check}
 use Rattle.sv_schema_reader.specs.declared.parts.Side.{Side}
 use Rattle.sv_schema_reader.specs.declared.parts.Order.{Order}
 use Rattle.sv_schema_reader.specs.declared.parts.Order.TheVariants.{AtMost, Below, AtLeast, Above}
-use Rattle.sv_schema_reader.specs.Grammar.{Both, ◌·◌, nothing, kind, word, mark, number_at, name, key_names, named, fixed, IsSide, Alone, More, Less, Plain as PlainNumber, Negated, order, check_of}
-use Rattle.sv_schema_reader.specs.Reading.{Read, ◌>>=◌, is_kind, is_next, token_at, kind_at, name_at, is_name, is_some, name_of, ident_of, int_of, key_at, side_of, fixed_side, fixed_of, fixed_at, side_at, order_named, order_of}
-use Rattle.sv_schema_reader.proofs.KindLaws.{token_of}
-use Rattle.sv_schema_reader.proofs.MadeLaws.{Made, placed, both_map, kind_law, take_last, take, take_plain, skip_plain, skip_last, ended}
-use Rattle.sv_schema_reader.proofs.PartLaws.{next_alike, kind_next, nothing_next, name_law, name_next, int_law}
-use Rattle.sv_schema_reader.proofs.ReadLaws.{Plain, anything, Means, leaf, Then, Either, Left, Right, either, follow, same_plain}
-
--- which kind the first token has
-pub kind_first : (j k : TokenKind) (Rest : List Token → Type 0) (front rest : List Token) → Both (kind k) Rest front → is_next j (front ++ rest) ≡ is_kind j k
-kind_first j k Rest front rest b =
-    ap (λ l. is_next j (l ++ rest)) (b.whole ∙ ap (λ l. l ++ b.back) b.first.only) ∙ ap (λ found. is_kind j found) b.first.holds
-
-pub only_first : (j k : TokenKind) (front rest : List Token) → kind k front → is_next j (front ++ rest) ≡ is_kind j k
-only_first j k front rest is = ap (λ l. is_next j (l ++ rest)) is.only ∙ ap (λ found. is_kind j found) is.holds
-
-pub both_assoc : {P Q R : List Token → Type 0} {l : List Token} → Both P (Both Q R) l → Both (Both P Q) R l
-both_assoc b = record {
-  front = b.front ++ b.then.front;
-  back = b.then.back;
-  whole = b.whole ∙ ap (λ l. b.front ++ l) b.then.whole ∙ sym (append_assoc b.front b.then.front b.then.back);
-  first = record { front = b.front; back = b.then.front; whole = refl; first = b.first; then = b.then.first };
-  then = b.then.then;
-}
-
-pub assoc_both : {P Q R : List Token → Type 0} {l : List Token} → Both (Both P Q) R l → Both P (Both Q R) l
-assoc_both b = record {
-  front = b.first.front;
-  back = b.first.back ++ b.back;
-  whole = b.whole ∙ ap (λ l. l ++ b.back) b.first.whole ∙ append_assoc b.first.front b.first.back b.back;
-  first = b.first.first;
-  then = record { front = b.first.back; back = b.back; whole = refl; first = b.first.then; then = b.then };
-}
+use Rattle.sv_reader.specs.Grammar.{◌·◌, nothing, kind, word, mark, number_at, name}
+use Rattle.sv_schema_reader.specs.Grammar.{key_names, named, fixed, IsSide, Alone, More, Less, Plain as PlainNumber, Negated, order, check_of}
+use Rattle.sv_reader.specs.Reading.{Read, ◌>>=◌, is_kind, is_next, token_at, kind_at, name_at, is_name, is_some, name_of, ident_of, int_of}
+use Rattle.sv_schema_reader.specs.Reading.{key_at, side_of, fixed_side, fixed_of, fixed_at, side_at, order_named, order_of}
+use Rattle.sv_reader.proofs.KindLaws.{token_of}
+use Rattle.sv_reader.proofs.MadeLaws.{Made, placed, both_map, kind_law, take_last, take, take_plain, skip_plain, skip_last, ended}
+use Rattle.sv_reader.proofs.AnswerLaws.{next_alike, anything}
+use Rattle.sv_reader.proofs.PartLaws.{kind_next, nothing_next, name_law, name_next, int_law, kind_first, only_first, both_assoc, assoc_both}
+use Rattle.sv_reader.proofs.ReadLaws.{Plain, Means, leaf, Then, Either, Left, Right, either, follow, same_plain}
+use Rattle.sv_schema_reader.proofs.MatterLaws.{schemas}
 
 -- keys
 
@@ -65,15 +43,15 @@ one_name first = Made (λ (_ : Unit {0}). let key : Ident × Option Ident = (fir
 abbrev some_names : Ident → Ident × Option Ident → List Token → Type 0
 some_names first = Made (λ (second : Option Ident). let key : Ident × Option Ident = (first, second) in key) key_tail
 
-key_tail_law : (first : Ident) → Plain {A = Ident × Option Ident} anything (some_names first)
+key_tail_law : (first : Ident) → Plain schemas {A = Ident × Option Ident} anything (some_names first)
     (λ r4. if is_next (Mark Comma) r4
     then (kind_at (Mark Comma) r4 >>= λ _ r5. name_at r5 >>= λ second r6. kind_at (Mark RightParen) r6 >>= λ _ r7. Ok ((first, Some second), r7))
     else (kind_at (Mark RightParen) r4 >>= λ _ r5. Ok ((first, None), r5)))
 key_tail_law first = same_plain
     (either (is_next (Mark Comma)) (next_alike (λ token. is_kind (Mark Comma) token.kind))
     (skip_plain (Mark Comma) (λ (x : Ident × Unit {0}). let key : Ident × Option Ident = (first, Some x.0) in key)
-    (take_plain (λ second (_ : Unit {0}). let key : Ident × Option Ident = (first, Some second) in key) (name_law anything) (λ second. skip_last {B = Ident × Option Ident} anything (Mark RightParen) (first, Some second))))
-    (skip_last {B = Ident × Option Ident} anything (Mark RightParen) (first, None))
+    (take_plain (λ second (_ : Unit {0}). let key : Ident × Option Ident = (first, Some second) in key) (name_law schemas anything) (λ second. skip_last schemas {B = Ident × Option Ident} anything (Mark RightParen) (first, Some second))))
+    (skip_last schemas {B = Ident × Option Ident} anything (Mark RightParen) (first, None))
     (λ key front rest m. kind_next (Mark Comma) (name m.«from».0 · mark RightParen) front rest m.is)
     (λ key front rest m ends. only_first (Mark Comma) (Mark RightParen) front rest m.is) (λ tokens fault t is. is) (λ tokens fault t is. is))
     into out
@@ -97,11 +75,11 @@ key_out : (first : Ident) (second : Option Ident) (l : List Token) → (key_name
 key_out first None l b = b
 key_out first (Some second) l b = both_map (λ x is. is) (λ x is. assoc_both is) (assoc_both b)
 
-pub key_law : Plain anything key_written key_at
+pub key_law : Plain schemas anything key_written key_at
 unfolding key_at
 key_law = same_plain
     (skip_plain (Name (codes "primary")) (λ (x : Ident × Option Ident). x) (skip_plain (Name (codes "key")) (λ (x : Ident × Option Ident). x) (skip_plain (Mark LeftParen) (λ (x : Ident × Option Ident). x)
-    (take_plain (λ first second. let key : Ident × Option Ident = (first, second) in key) (name_law anything) key_tail_law))))
+    (take_plain (λ first second. let key : Ident × Option Ident = (first, second) in key) (name_law schemas anything) key_tail_law))))
     into out
   where
     into : (key : Ident × Option Ident) (l : List Token) → Made (λ (x : Ident × Option Ident). x) key_parts key l → key_written key l
@@ -128,14 +106,14 @@ or_second : (a b : Bool) → a || b ≡ false → b ≡ false
 or_second true b e = absurd cc
 or_second false b e = e
 
-pub side_of_law : (ident : Ident) → Plain clash_side (side_tail ident) (side_of ident)
+pub side_of_law : (ident : Ident) → Plain schemas clash_side (side_tail ident) (side_of ident)
 unfolding side_of
 side_of_law ident =
     either (is_next (Mark Plus)) (next_alike (λ token. is_kind (Mark Plus) token.kind))
-    (skip_plain (Mark Plus) (λ n. named ident n) (take_last (λ n. named ident n) (int_law clash_side)))
+    (skip_plain (Mark Plus) (λ n. named ident n) (take_last (λ n. named ident n) (int_law schemas clash_side)))
     (either (is_next (Mark Minus)) (next_alike (λ token. is_kind (Mark Minus) token.kind))
-    (skip_plain (Mark Minus) (λ n. named ident (neg_ℤ n)) (take_last (λ n. named ident (neg_ℤ n)) (int_law clash_side)))
-    (ended clash_side (named ident (pos 0)))
+    (skip_plain (Mark Minus) (λ n. named ident (neg_ℤ n)) (take_last (λ n. named ident (neg_ℤ n)) (int_law schemas clash_side)))
+    (ended schemas clash_side (named ident (pos 0)))
     (λ s front rest m. kind_next (Mark Minus) (kind (Number m.«from»)) front rest m.is)
     (λ s front rest m ends. nothing_next (is_next (Mark Minus)) front rest m.is (or_second (is_next (Mark Plus) rest) (is_next (Mark Minus) rest) ends)) (λ tokens fault t is. is) (λ tokens fault t is. is))
     (λ s front rest m. kind_next (Mark Plus) (kind (Number m.«from»)) front rest m.is)
@@ -155,8 +133,8 @@ fixed_is spot (Name bytes) s e = absurd cc
 fixed_is spot (Text bytes) s e = absurd cc
 fixed_is spot (Mark m) s e = absurd cc
 
-number_law : (clash : List Token → Bool) → Plain clash (Made (λ (x : Spot × ℤ). fixed x.0 x.1) (λ x. number_at x.0 x.1)) (token_at fixed_of)
-number_law clash = same_plain (leaf clash fixed_of (token_of (Number (pos 0))) (fixed (record { line = 1; col = 1 }) (pos 0)) refl) into out
+number_law : (clash : List Token → Bool) → Plain schemas clash (Made (λ (x : Spot × ℤ). fixed x.0 x.1) (λ x. number_at x.0 x.1)) (token_at fixed_of)
+number_law clash = same_plain (leaf schemas clash fixed_of (token_of (Number (pos 0))) (fixed (record { line = 1; col = 1 }) (pos 0)) refl) into out
   where
     into : (s : Side) (l : List Token) → Means fixed_of s l → Made (λ (x : Spot × ℤ). fixed x.0 x.1) (λ x. number_at x.0 x.1) s l
     into s l m = let is = fixed_is m.token.spot m.token.kind s m.holds in
@@ -169,11 +147,11 @@ number_law clash = same_plain (leaf clash fixed_of (token_of (Number (pos 0))) (
       holds = ap (λ k. fixed_side m.is.token.spot (int_of k)) m.is.holds.0 ∙ ap (λ spot. Some (fixed spot m.«from».1)) m.is.holds.1 ∙ ap Some (sym m.made);
     }
 
-pub fixed_law : (clash : List Token → Bool) → Plain clash IsFixed fixed_at
+pub fixed_law : (clash : List Token → Bool) → Plain schemas clash IsFixed fixed_at
 unfolding fixed_at
 fixed_law clash =
     either (is_next (Mark Minus)) (next_alike (λ token. is_kind (Mark Minus) token.kind))
-    (take_plain (λ spot n. fixed spot (neg_ℤ n)) (kind_law anything (Mark Minus)) (λ spot. take_last (λ n. fixed spot (neg_ℤ n)) (int_law clash)))
+    (take_plain (λ spot n. fixed spot (neg_ℤ n)) (kind_law schemas anything (Mark Minus)) (λ spot. take_last (λ n. fixed spot (neg_ℤ n)) (int_law schemas clash)))
     (number_law clash)
     (λ s front rest m. ap (λ l. is_next (Mark Minus) (l ++ rest)) (m.is.whole ∙ ap (λ l. l ++ m.is.back) m.is.first.only) ∙ ap (λ found. is_kind (Mark Minus) found) m.is.first.holds.0)
     (λ s front rest m ends. ap (λ l. is_next (Mark Minus) (l ++ rest)) m.is.only ∙ ap (λ found. is_kind (Mark Minus) found) m.is.holds.0)
@@ -202,10 +180,10 @@ side_out _ l (Less ident n _ b) = Left (record { head = ident; parts = record { 
 side_out _ l (PlainNumber spot n _ is) = Right (Right (record { «from» = (spot, n); is = is; made = refl }))
 side_out _ l (Negated spot n _ b) = Right (Left (record { «from» = (spot, n); is = b; made = refl }))
 
-pub side_law : Plain clash_side IsSide side_at
+pub side_law : Plain schemas clash_side IsSide side_at
 unfolding side_at
 side_law = same_plain
-    (either is_name (next_alike (λ token. is_some (name_of token))) (follow (name_law anything) side_of_law) (fixed_law clash_side)
+    (either is_name (next_alike (λ token. is_some (name_of token))) (follow (name_law schemas anything) side_of_law) (fixed_law clash_side)
     (λ s front rest t. name_next t.head (side_tail t.head s) front rest t.parts) (λ s front rest is ends. fixed_no_name s front rest is) (λ tokens fault t is. is) (λ tokens fault t is. is))
     side_in side_out
 
@@ -218,8 +196,8 @@ mark_order Ge by e token l only k = let same : AtLeast ≡ by = cc in subst (λ 
 mark_order Gt by e token l only k = let same : Above ≡ by = cc in subst (λ x. order x l) same (record { token = token; only = only; holds = k })
 mark_order _ by e token l only k = absurd cc
 
-pub order_law : (clash : List Token → Bool) → Plain clash order (token_at (λ token. order_of token.kind))
-order_law clash = same_plain (leaf clash (λ token. order_of token.kind) (token_of (Mark Le)) AtMost refl) into out
+pub order_law : (clash : List Token → Bool) → Plain schemas clash order (token_at (λ token. order_of token.kind))
+order_law clash = same_plain (leaf schemas clash (λ token. order_of token.kind) (token_of (Mark Le)) AtMost refl) into out
   where
     by_kind : (by : Order) (l : List Token) (token : Token) (k : TokenKind) → l ≡ token ∷ [] → token.kind ≡ k → order_of k ≡ Some by → order by l
     by_kind by l token (Mark m) only is e = mark_order m by e token l only is
@@ -245,10 +223,10 @@ free_compared_at left tokens =
 abbrev pub comparison : Side → Check → List Token → Type 0
 comparison left = Made (λ (x : Order × (Side × Unit {0})). check_of left x.0 x.1.0) (λ x. order x.0 · IsSide x.1.0 · mark RightParen)
 
-pub free_compared_law : (left : Side) → Plain anything (comparison left) (free_compared_at left)
+pub free_compared_law : (left : Side) → Plain schemas anything (comparison left) (free_compared_at left)
 free_compared_law left =
     take_plain (λ by (x : Side × Unit {0}). check_of left by x.0) (order_law anything)
-    (λ by. take (λ right (_ : Unit {0}). check_of left by right) side_law (λ right. skip_last anything (Mark RightParen) (check_of left by right))
+    (λ by. take (λ right (_ : Unit {0}). check_of left by right) side_law (λ right. skip_last schemas anything (Mark RightParen) (check_of left by right))
     (λ right t tokens rest is ends. closed tokens rest is) (λ tokens fault is. is) (λ tokens a rest fault took is. is))
   where
     closed : (tokens rest : List Token) → mark RightParen tokens → clash_side (tokens ++ rest) ≡ false

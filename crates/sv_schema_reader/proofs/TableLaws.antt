@@ -9,16 +9,20 @@ use Rattle.sv_app.specs.declared.apps.Ident.{Ident}
 use Rattle.sv_app.specs.declared.schemas.Kind.{Kind}
 use Rattle.sv_app.specs.Schema.{Invariant, Declaration}
 use Rattle.sv_schema_reader.specs.Declarations.{columns_of, keys_of, first_key, second_key, invariants_of, declared}
-use Rattle.sv_schema_reader.specs.Grammar.{◌·◌, kind, word, name, mark, table_kind, Item, Field, Key, Demand, item, others, separated, Written, table}
+use Rattle.sv_reader.specs.Grammar.{◌·◌, kind, word, name, mark, others, separated}
+use Rattle.sv_schema_reader.specs.Grammar.{table_kind, Item, Field, Key, Demand, item, Written, table}
 use Rattle.sv_schema_reader.specs.Limits.{IsSmallItem, IsSmallTable}
-use Rattle.sv_schema_reader.specs.Reading.{Read, is_kind, is_next, is_name, demands, with_column, with_key, with_second, with_rule, is_empty, undeclared, item_step, list_at, table_at}
+use Rattle.sv_reader.specs.Reading.{Read, is_kind, is_next, is_name, list_at}
+use Rattle.sv_schema_reader.specs.Reading.{demands, with_column, with_key, with_second, with_rule, is_empty, undeclared, item_step, table_at}
 use Rattle.sv_schema_reader.proofs.ItemLaws.{small_item}
 use Rattle.sv_schema_reader.proofs.ItemStepLaws.{add_item, more_items, ItemRoom, item_stepping, item_step_is}
-use Rattle.sv_schema_reader.proofs.ListLaws.{all_added, Rooms, Listed, Any, list, list_limited}
-use Rattle.sv_schema_reader.proofs.MadeLaws.{Made, take_limited, skip_limited, skip_last}
-use Rattle.sv_schema_reader.proofs.PartLaws.{table_kind_law, name_law}
-use Rattle.sv_schema_reader.proofs.ReadLaws.{Limited, anything, limited, same_limited, same_reading_limited}
-use Rattle.sv_schema_reader.proofs.SideLaws.{assoc_both, both_assoc, kind_first}
+use Rattle.sv_reader.proofs.ListLaws.{all_added, Rooms, Listed, Any, list, list_limited}
+use Rattle.sv_reader.proofs.MadeLaws.{Made, take_limited, skip_limited, skip_last}
+use Rattle.sv_reader.proofs.PartLaws.{name_law, assoc_both, both_assoc, kind_first}
+use Rattle.sv_schema_reader.proofs.PartLaws.{table_kind_law}
+use Rattle.sv_reader.proofs.AnswerLaws.{anything}
+use Rattle.sv_reader.proofs.ReadLaws.{Limited, limited, same_limited, same_reading_limited}
+use Rattle.sv_schema_reader.proofs.MatterLaws.{schemas}
 
 -- items one after another
 
@@ -162,7 +166,7 @@ small_separated (x ∷ xs) l b all = record { front = b.front; back = b.back; wh
 abbrev pub small_items : Kind → Ident → List Item → List Token → Type 0
 small_items kind name items l = list item items l × IsSmallTable (written kind name items)
 
-pub items_law : (count : ℕ) (kind : Kind) (name : Ident) → Limited anything (Made (λ items. declared count (written kind name items)) (list item)) (Made (λ items. declared count (written kind name items)) (small_items kind name))
+pub items_law : (count : ℕ) (kind : Kind) (name : Ident) → Limited schemas anything (Made (λ items. declared count (written kind name items)) (list item)) (Made (λ items. declared count (written kind name items)) (small_items kind name))
     (list_at (item_step count) (undeclared kind name))
 items_law count kind name = same_limited
     (same_reading_limited (λ l. ap (λ (step : Declaration → List Token → Read Declaration). list_at step (undeclared kind name) l) (λ i d tokens. item_step_is count d tokens i))
@@ -237,13 +241,13 @@ Parts = Kind × (Ident × (Declaration × Unit {0}))
 abbrev parts : (Kind → Ident → Declaration → List Token → Type 0) → Declaration → List Token → Type 0
 parts D = Made (λ (x : Parts). x.1.1.0) (λ x. table_kind x.0 · word (codes "create") · word (codes "table") · name x.1.0 · mark LeftParen · D x.0 x.1.0 x.1.1.0 · mark Semi)
 
-parts_law : (count : ℕ) → Limited anything (parts (λ kind n. Made (λ items. declared count (written kind n items)) (list item))) (parts (λ kind n. Made (λ items. declared count (written kind n items)) (small_items kind n))) (table_at count)
+parts_law : (count : ℕ) → Limited schemas anything (parts (λ kind n. Made (λ items. declared count (written kind n items)) (list item))) (parts (λ kind n. Made (λ items. declared count (written kind n items)) (small_items kind n))) (table_at count)
 unfolding table_at
 parts_law count = take_limited (λ kind (x : Ident × (Declaration × Unit {0})). x.1.0) (limited table_kind_law)
     (λ kind. skip_limited (Name (codes "create")) (λ (x : Ident × (Declaration × Unit {0})). x.1.0) (skip_limited (Name (codes "table")) (λ (x : Ident × (Declaration × Unit {0})). x.1.0)
-    (take_limited (λ n (x : Declaration × Unit {0}). x.0) (limited (name_law anything))
+    (take_limited (λ n (x : Declaration × Unit {0}). x.0) (limited (name_law schemas anything))
     (λ n. skip_limited (Mark LeftParen) (λ (x : Declaration × Unit {0}). x.0)
-    (take_limited (λ d (_ : Unit {0}). d) (items_law count kind n) (λ d. limited (skip_last anything (Mark Semi) d)) (λ d t tokens rest is ends. refl)))
+    (take_limited (λ d (_ : Unit {0}). d) (items_law count kind n) (λ d. limited (skip_last schemas anything (Mark Semi) d)) (λ d t tokens rest is ends. refl)))
     (λ n t tokens rest is ends. refl))))
     (λ kind x tokens rest is ends. kind_first (Mark At) (Name (codes "create")) _ tokens rest is)
 
@@ -377,7 +381,7 @@ deep t map l a =
 small_of : (t : Written) (l : List Token) → grouped small_items t.kind t.name t.items l → IsSmallTable t
 small_of t l a = a.then.then.then.then.then.first.1
 
-pub table_law : (count : ℕ) → Limited anything (Made (λ (t : Written). declared count t) table) (Made (λ (t : Written). declared count t) small_table) (table_at count)
+pub table_law : (count : ℕ) → Limited schemas anything (Made (λ (t : Written). declared count t) table) (Made (λ (t : Written). declared count t) small_table) (table_at count)
 table_law count = same_limited (parts_law count)
     (λ d l p. let m = regroup any_items count d l p in record { «from» = m.«from»; is = deep m.«from» (λ x b. assoc_both b) l m.is; made = m.made })
     (λ d l m. ungroup any_items count d l (record { «from» = m.«from»; is = deep m.«from» (λ x b. both_assoc b) l m.is; made = m.made }))

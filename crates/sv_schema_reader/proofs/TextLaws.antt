@@ -1,5 +1,5 @@
 -- Lists of texts.
-use Rattle.std.proofs.Common.{◌≡◌, ◌∙◌, ℕ, ◌+◌, ◌<◌, ◌≤◌, Bool, true, false, ◌&&◌, nat_le, List, [], ◌∷◌, ◌++◌, length, refl, sym, ap, subst, arith, append_assoc, append-nil, codes}
+use Rattle.std.proofs.Common.{◌≡◌, ◌∙◌, ℕ, ◌+◌, ◌<◌, ◌≤◌, Bool, true, false, ◌&&◌, nat_le, List, [], ◌∷◌, ◌++◌, length, refl, sym, ap, subst, arith, codes}
 use Rattle.std.proofs.lemmas.List.{length-append}
 use Rattle.std.proofs.lemmas.Bool.Decides.{nat_tests}
 use Rattle.sv_lex.specs.declared.marks.Mark.TheVariants.{LeftParen, RightParen, Comma}
@@ -8,23 +8,23 @@ use Rattle.sv_lex.specs.declared.tokens.TokenKind.{TokenKind}
 use Rattle.sv_lex.specs.declared.tokens.TokenKind.TheVariants.{Name, Number, Text, Mark}
 use Rattle.sv_app.specs.declared.apps.Ident.{Ident}
 use Rattle.sv_app.specs.Schema.{OneOf}
-use Rattle.sv_schema_reader.specs.Grammar.{◌·◌, word, mark, text}
-use Rattle.sv_schema_reader.specs.Reading.{token_at, text_of, bytes_of, is_some, is_text, list_at, text_step, texts_at}
+use Rattle.sv_reader.specs.Grammar.{◌·◌, word, mark, text}
+use Rattle.sv_reader.specs.Reading.{token_at, text_of, bytes_of, is_some, is_text, list_at}
+use Rattle.sv_schema_reader.specs.Reading.{text_step, texts_at}
 use Rattle.sv_schema_reader.specs.Refused.{IsFirst}
-use Rattle.sv_schema_reader.proofs.ListLaws.{all_added, Rooms, Listed, Any, list, list_limited}
-use Rattle.sv_schema_reader.proofs.MadeLaws.{Made, take_limited, skip_limited, skip_last}
-use Rattle.sv_schema_reader.proofs.PartLaws.{next_alike, text_law}
-use Rattle.sv_schema_reader.proofs.ReadLaws.{Start, Limited, anything, limited, same_limited}
-use Rattle.sv_schema_reader.proofs.StepLaws.{Stepping, one_step}
+use Rattle.sv_reader.proofs.ListLaws.{Rooms, Listed, Any, list, list_limited, snoc, all_snoc, any_rooms}
+use Rattle.sv_reader.proofs.MadeLaws.{Made, take_limited, skip_limited, skip_last}
+use Rattle.sv_reader.proofs.AnswerLaws.{next_alike, anything}
+use Rattle.sv_reader.proofs.PartLaws.{text_law}
+use Rattle.sv_reader.proofs.ReadLaws.{Start, Limited, limited, same_limited}
+use Rattle.sv_reader.proofs.StepLaws.{Stepping, one_step}
+use Rattle.sv_schema_reader.proofs.MatterLaws.{schemas}
 
 abbrev pub more_texts : List (List ℕ) → List Token → Bool
 more_texts texts tokens = is_text tokens && nat_le 16 (length texts)
 
 abbrev pub TextRoom : List (List ℕ) → List ℕ → Type 0
 TextRoom texts bytes = length texts < 16
-
-abbrev pub snoc : {A : Type 0} → List A → A → List A
-snoc xs x = xs ++ x ∷ []
 
 text_next : (bytes : List ℕ) (front rest : List Token) → text bytes front → is_text (front ++ rest) ≡ true
 text_next bytes front rest is = ap (λ l. is_text (l ++ rest)) is.only ∙ ap (λ k. is_some (bytes_of k)) is.holds
@@ -56,10 +56,10 @@ no_comma bytes token l is e =
     cons_first : {x y : Token} {xs ys : List Token} → x ∷ xs ≡ y ∷ ys → x ≡ y
     cons_first e = cc
 
-pub text_stepping : Stepping anything more_texts (λ _. token_at text_of) (λ _. text) (λ _. text) TextRoom
+pub text_stepping : Stepping schemas anything more_texts (λ _. token_at text_of) (λ _. text) (λ _. text) TextRoom
 text_stepping = record {
   alike = λ texts a b alike. ap (λ t. t && nat_le 16 (length texts)) (next_alike (λ token. is_some (text_of token)) a b alike);
-  law = λ _. limited (text_law anything);
+  law = λ _. limited (text_law schemas anything);
   some = λ _ bytes l is e. let bad : is.token ∷ [] ≡ [] = sym is.only ∙ e in absurd cc;
   fits = λ texts bytes front rest is e. roomy (is_text (front ++ rest)) (length texts) (text_next bytes front rest is) e;
   roomy = λ texts bytes front rest is lt. room (is_text (front ++ rest)) (length texts) lt;
@@ -67,10 +67,6 @@ text_stepping = record {
   passing = λ texts token l e. passing_text token token.kind refl (and_first (is_some (text_of token)) (nat_le 16 (length texts)) e);
   no_comma = λ _ bytes token l is e. no_comma bytes token l is e;
 }
-
-pub all_snoc : {A : Type 0} (xs ys : List A) → all_added snoc xs ys ≡ xs ++ ys
-all_snoc xs [] = sym (append-nil xs)
-all_snoc xs (y ∷ ys) = all_snoc (xs ++ y ∷ []) ys ∙ append_assoc xs (y ∷ []) ys
 
 text_rooms : (xs ys : List (List ℕ)) → Rooms snoc TextRoom xs ys → length xs ≤ 16 → length xs + length ys ≤ 16
 text_rooms xs [] rooms le = omega (arith, le)
@@ -80,10 +76,6 @@ rooms_text : (xs ys : List (List ℕ)) → length xs + length ys ≤ 16 → Room
 rooms_text xs [] le = tt
 rooms_text xs (y ∷ ys) le = (omega (arith, le), rooms_text (xs ++ y ∷ []) ys (omega (arith, le, length-append xs (y ∷ []))))
 
-any_rooms : {S A : Type 0} (add : S → A → S) (s : S) (xs : List A) → Rooms add Any s xs
-any_rooms add s [] = tt
-any_rooms add s (x ∷ xs) = (tt, any_rooms add (add s x) xs)
-
 pub step_is : (texts : List (List ℕ)) (tokens : List Token) → text_step texts tokens ≡ one_step text_stepping snoc texts tokens
 unfolding text_step
 step_is texts tokens = refl
@@ -91,7 +83,7 @@ step_is texts tokens = refl
 abbrev few_texts : List (List ℕ) → List Token → Type 0
 few_texts texts l = list text texts l × (length texts ≤ 16)
 
-pub text_list_law : Limited anything (list text) few_texts (list_at text_step [])
+pub text_list_law : Limited schemas anything (list text) few_texts (list_at text_step [])
 unfolding text_step
 text_list_law = same_limited (list_limited text_stepping snoc (λ token l e. refl) (λ token l e. refl) [] (λ l. none l) (λ x. omega arith)) into out small_into small_out
   where
@@ -119,11 +111,11 @@ text_rule texts = word (codes "in") · mark LeftParen · list text texts · mark
 abbrev pub few_text_rule : List (List ℕ) → List Token → Type 0
 few_text_rule texts l = text_rule texts l × (length texts ≤ 16)
 
-pub texts_law : (col : Ident) → Limited anything (Made (OneOf col) text_rule) (Made (OneOf col) few_text_rule) (texts_at col)
+pub texts_law : (col : Ident) → Limited schemas anything (Made (OneOf col) text_rule) (Made (OneOf col) few_text_rule) (texts_at col)
 unfolding texts_at
 texts_law col = same_limited
     (skip_limited (Name (codes "in")) (λ (x : List (List ℕ) × Unit {0}). OneOf col x.0) (skip_limited (Mark LeftParen) (λ (x : List (List ℕ) × Unit {0}). OneOf col x.0)
-    (take_limited (λ texts (_ : Unit {0}). OneOf col texts) text_list_law (λ texts. limited (skip_last anything (Mark RightParen) (OneOf col texts))) (λ a t tokens rest is ends. refl))))
+    (take_limited (λ texts (_ : Unit {0}). OneOf col texts) text_list_law (λ texts. limited (skip_last schemas anything (Mark RightParen) (OneOf col texts))) (λ a t tokens rest is ends. refl))))
     (λ r l m. record { «from» = m.«from».0; is = m.is; made = m.made }) (λ r l m. record { «from» = (m.«from», tt); is = m.is; made = m.made })
     (λ r l m. record {
       «from» = m.«from».0;

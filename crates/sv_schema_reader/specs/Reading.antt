@@ -1,15 +1,12 @@
 -- Reading tables from left to right: what some tokens begin with, and the tokens behind it.
-use Rattle.std.specs.Prelude.{◌≡◌, ℕ, zero, suc, ◌+◌, ℤ, pos, neg_ℤ, Bool, true, false, not, ◌&&◌, ◌||◌, if◌then◌else◌, nat_le, List, [], ◌∷◌, ◌++◌, length, option_to_list, Option, Some, None, Result, Ok, Err, bytes_eq, int_le, int_lt, ◌^◌, codes}
-use Rattle.std.specs.Ordering.{int_eq}
+use Rattle.std.specs.Prelude.{ℕ, zero, ◌+◌, ℤ, pos, neg_ℤ, Bool, true, false, ◌&&◌, ◌||◌, if◌then◌else◌, nat_le, List, [], ◌∷◌, ◌++◌, length, option_to_list, Option, Some, None, Ok, Err, bytes_eq, int_le, int_lt, ◌^◌, codes}
 use Rattle.sv_value.specs.declared.spots.Spot.{Spot}
 use Rattle.sv_lex.specs.declared.marks.Mark.{Mark as IsMark}
 use Rattle.sv_lex.specs.declared.marks.Mark.TheVariants.{LeftParen, RightParen, Comma, Semi, Lt, Le, Gt, Ge, Plus, Minus, At}
 use Rattle.sv_lex.specs.declared.tokens.Token.{Token}
 use Rattle.sv_lex.specs.declared.tokens.TokenKind.{TokenKind}
-use Rattle.sv_lex.specs.declared.tokens.TokenKind.TheVariants.{Name, Number, Text, Mark}
-use Rattle.sv_lex.specs.Marks.{mark_bytes}
+use Rattle.sv_lex.specs.declared.tokens.TokenKind.TheVariants.{Name, Text, Mark}
 use Rattle.sv_app.specs.declared.apps.Ident.{Ident}
-use Rattle.sv_app.specs.declared.refusals.Code.{Code}
 use Rattle.sv_app.specs.declared.refusals.Code.TheVariants.{Syntax, Many}
 use Rattle.sv_app.specs.declared.schemas.Check.{Check}
 use Rattle.sv_app.specs.declared.schemas.Column.{Column}
@@ -20,98 +17,11 @@ use Rattle.sv_app.specs.declared.schemas.Merge.TheVariants as merges
 use Rattle.sv_app.specs.declared.schemas.Ty.{Ty}
 use Rattle.sv_app.specs.declared.schemas.Ty.TheVariants as types
 use Rattle.sv_app.specs.Schema.{Rule, Bound, OneOf, Different, Refers, Declaration}
-use Rattle.sv_app.specs.Words.{is_reserved}
-use Rattle.sv_schema_reader.specs.declared.faults.Fault.{Fault}
-use Rattle.sv_schema_reader.specs.declared.faults.Halt.{Halt}
-use Rattle.sv_schema_reader.specs.declared.faults.Halt.TheVariants.{Faulty, NoMemory}
 use Rattle.sv_schema_reader.specs.declared.parts.Side.{Side}
 use Rattle.sv_schema_reader.specs.declared.parts.Order.{Order}
 use Rattle.sv_schema_reader.specs.declared.parts.Order.TheVariants.{AtMost, Below, AtLeast, Above}
 use Rattle.sv_schema_reader.specs.Grammar.{named, fixed, check_of}
-
--- a value and the tokens behind it, or a fault
-abbrev pub Read : Type 0 → Type 0
-Read A = Result (A × List Token) Fault
-
-infixl 10 ◌>>=◌
-abbrev pub ◌>>=◌ : {A B : Type 0} → Read A → (A → List Token → Read B) → Read B
-(Ok read) >>= more = more read.0 read.1
-(Err fault) >>= more = Err fault
-
--- a fault at the first of these tokens
-abbrev pub refuse : {A : Type 0} → Code → List Token → Read A
-refuse code tokens = Err (record { code = code; left = length tokens })
-
--- what a reader answered, seen by view, and left is what reading gives, unless memory ran out
-abbrev pub Reads : {A B : Type 0} → (A → B) → Result A Halt → List Token → Read B → Type 0
-Reads view (Ok a) rest read = read ≡ Ok (view a, rest)
-Reads view (Err (Faulty fault)) rest read = read ≡ Err fault
-Reads view (Err NoMemory) rest read = Unit {0}
-
-abbrev pub is_mark : IsMark → IsMark → Bool
-is_mark wanted found = bytes_eq (mark_bytes found) (mark_bytes wanted)
-
-abbrev pub is_kind : TokenKind → TokenKind → Bool
-is_kind (Name wanted) (Name found) = bytes_eq found wanted
-is_kind (Number wanted) (Number found) = int_eq found wanted
-is_kind (Text wanted) (Text found) = bytes_eq found wanted
-is_kind (Mark wanted) (Mark found) = is_mark wanted found
-is_kind _ _ = false
-
--- whether there is a next token, and it passes the test
-abbrev pub next : (Token → Bool) → List Token → Bool
-next test [] = false
-next test (token ∷ rest) = test token
-
-abbrev pub is_next : TokenKind → List Token → Bool
-is_next wanted tokens = next (λ token. is_kind wanted token.kind) tokens
-
-abbrev pub given : {A : Type 0} → Bool → A → Option A
-given test a = if test then Some a else None
-
-abbrev pub found_at : {A : Type 0} → Option A → Token → List Token → Read A
-found_at (Some a) token rest = Ok (a, rest)
-found_at None token rest = refuse Syntax (token ∷ rest)
-
--- the next token, if it means something
-abbrev pub token_at : {A : Type 0} → (Token → Option A) → List Token → Read A
-token_at meaning [] = refuse Syntax []
-token_at meaning (token ∷ rest) = found_at (meaning token) token rest
-
--- the place of a token of this kind
-abbrev pub kind_at : TokenKind → List Token → Read Spot
-kind_at wanted = token_at (λ token. given (is_kind wanted token.kind) token.spot)
-
-abbrev pub ident_of : Spot → TokenKind → Option Ident
-ident_of spot (Name name) = given (not (is_reserved name)) (record { name = name; spot = spot; num = 0 })
-ident_of spot _ = None
-
-abbrev pub name_of : Token → Option Ident
-name_of token = ident_of token.spot token.kind
-
-abbrev pub name_at : List Token → Read Ident
-name_at = token_at name_of
-
-abbrev pub is_some : {A : Type 0} → Option A → Bool
-is_some (Some a) = true
-is_some None = false
-
-abbrev pub is_name : List Token → Bool
-is_name tokens = next (λ token. is_some (name_of token)) tokens
-
-abbrev pub int_of : TokenKind → Option ℤ
-int_of (Number n) = Some n
-int_of _ = None
-
-abbrev pub int_at : List Token → Read ℤ
-int_at = token_at (λ token. int_of token.kind)
-
-abbrev pub bytes_of : TokenKind → Option (List ℕ)
-bytes_of (Text text) = Some text
-bytes_of _ = None
-
-abbrev pub text_of : Token → Option (List ℕ)
-text_of token = bytes_of token.kind
+use Rattle.sv_reader.specs.Reading.{Read, ◌>>=◌, refuse, is_next, token_at, kind_at, name_at, is_name, int_of, int_at, text_of, is_text, by_word, turns_at, list_at}
 
 -- the table kinds, column types and merge kinds by their words
 
@@ -125,10 +35,6 @@ type_named word = if bytes_eq word (codes "int") then Some types.Int else if byt
 
 abbrev pub merge_named : List ℕ → Option Merge
 merge_named word = if bytes_eq word (codes "LWW") then Some merges.Lww else if bytes_eq word (codes "NUMDELTA") then Some merges.NumDelta else None
-
-abbrev pub by_word : {A : Type 0} → (List ℕ → Option A) → TokenKind → Option A
-by_word meaning (Name name) = meaning name
-by_word meaning _ = None
 
 unfoldable pub table_kind_at : List Token → Read Kind
 table_kind_at tokens =
@@ -202,32 +108,6 @@ bounded start check rest = if fits64 check.most then Ok (Bound check, rest) else
 unfoldable pub compared_at : ℕ → Side → List Token → Read Rule
 compared_at start left tokens =
     token_at (λ token. order_of token.kind) tokens >>= λ by r1. side_at r1 >>= λ right r2. kind_at (Mark RightParen) r2 >>= λ _ r3. bounded start (check_of left by right) r3
-
--- turns are read as long as the test is passed, and then the end
-unfoldable pub turns_from : {S : Type 0} → (List Token → Bool) → (S → List Token → Read S) → (S → List Token → Read S) → ℕ → S → List Token → Read S
-turns_from test turn end zero s tokens = end s tokens
-turns_from test turn end (suc fuel) s tokens = if test tokens then (turn s tokens >>= λ next r. turns_from test turn end fuel next r) else end s tokens
-
--- all of them: each takes a token at least
-abbrev pub turns_at : {S : Type 0} → (List Token → Bool) → (S → List Token → Read S) → (S → List Token → Read S) → S → List Token → Read S
-turns_at test turn end s tokens = turns_from test turn end (suc (length tokens)) s tokens
-
--- a comma, and one more step
-abbrev pub comma_turn : {S : Type 0} → (S → List Token → Read S) → S → List Token → Read S
-comma_turn step s tokens = kind_at (Mark Comma) tokens >>= λ _ r. step s r
-
-abbrev pub closed_at : {S : Type 0} → S → List Token → Read S
-closed_at s tokens = kind_at (Mark RightParen) tokens >>= λ _ r. Ok (s, r)
-
-abbrev pub others_at : {S : Type 0} → (S → List Token → Read S) → S → List Token → Read S
-others_at step s tokens = turns_at (is_next (Mark Comma)) (comma_turn step) closed_at s tokens
-
--- a step, and more of them behind commas, up to a parenthesis
-unfoldable pub list_at : {S : Type 0} → (S → List Token → Read S) → S → List Token → Read S
-list_at step s tokens = step s tokens >>= λ next r. others_at step next r
-
-abbrev pub is_text : List Token → Bool
-is_text tokens = next (λ token. is_some (text_of token)) tokens
 
 -- one more text
 unfoldable pub text_step : List (List ℕ) → List Token → Read (List (List ℕ))
@@ -333,8 +213,3 @@ tables_at = turns_at begins_table table_step (λ ds tokens. Ok (ds, tokens))
 -- the tables that stand here, at least one
 unfoldable pub schema_at : List Token → Read (List Declaration)
 schema_at tokens = table_step [] tokens >>= λ ds r. tables_at ds r
-
--- what was read, and how many tokens are left
-abbrev pub IsLeft : {A : Type 0} → Read A → A → ℕ → Type 0
-IsLeft (Ok read) a left = (read.0 ≡ a) × (length read.1 ≡ left)
-IsLeft (Err fault) a left = ⊥

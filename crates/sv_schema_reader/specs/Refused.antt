@@ -16,11 +16,7 @@ use Rattle.sv_app.specs.Schema.{Bound, Declaration, schema_of}
 use Rattle.sv_schema_reader.specs.Declarations.{all_declared}
 use Rattle.sv_schema_reader.specs.Grammar.{Written, schema, item, Demand}
 use Rattle.sv_schema_reader.specs.Limits.{AreSmall, Fits64}
-
--- where the first of some tokens stands; the end of the document, if there is none
-abbrev pub spot_of : Spot → List Token → Spot
-spot_of end [] = end
-spot_of end (token ∷ others) = token.spot
+use Rattle.sv_reader.specs.Places.{spot_of}
 
 -- a schema may begin with these tokens
 pub record Begins (tokens : List Token) : Type 0 where

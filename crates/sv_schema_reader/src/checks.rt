@@ -1,12 +1,12 @@
 ghost use Rattle.std.specs.Prelude.{◌≡◌, neg_ℤ, pos, ◌-ℤ◌, Some};
 ghost use Rattle.sv_schema_reader.specs.Grammar.{named, fixed, check_of};
-ghost use Rattle.sv_schema_reader.specs.Reading.{order_of, order_named, fits64, given};
+ghost use Rattle.sv_reader.specs.Reading.{given, Reads, token_at};
+ghost use Rattle.sv_schema_reader.specs.Reading.{order_of, order_named, fits64, fixed_of, side_of, fixed_at, side_at};
 
-use crate::faults::Halt;
 use crate::parts::{Order, Side};
-use crate::readers::Reader;
 use sv_app::{Check, Ident};
 use sv_lex::{Mark, Token, TokenKind};
+use sv_reader::{ReadStop, Reader};
 use sv_value::Spot;
 
 fn order_named(mark: Mark) -> Option<Order>
@@ -119,75 +119,71 @@ pub fn check_of(left: &Side, by: Order, right: &Side) -> Option<Check>
     })
 }
 
-impl Reader<'_> {
-    ghost use Rattle.sv_schema_reader.specs.Reading.{Reads, token_at, fixed_of, side_of, fixed_at, side_at};
-
-    fn plain_number(&mut self) -> Result<Side, Halt>
-        ensures { Reads (λ side. side) result self.new.rest.now (token_at fixed_of self.old.rest.now) }
-    {
-        if let [token, rest @ ..] = self.rest {
-            if let TokenKind::Number(number) = &token.kind {
-                let side = fixed(token.spot, *number);
-                self.rest = rest;
-                return Ok(side);
-            }
+fn plain_number(reader: &mut Reader<'_>) -> Result<Side, ReadStop>
+    ensures { Reads (λ side. side) result reader.new.rest.now (token_at fixed_of reader.old.rest.now) }
+{
+    if let [token, rest @ ..] = reader.rest {
+        if let TokenKind::Number(number) = &token.kind {
+            let side = fixed(token.spot, *number);
+            reader.rest = rest;
+            return Ok(side);
         }
-        Err(Halt::Faulty(self.misplaced()))
     }
+    Err(ReadStop::Faulty(reader.misplaced()))
+}
 
-    /// Reads what may stand behind the column of a side.
-    #[tactic(auto, unfolding(crate::specs::Reading::side_of))]
-    pub fn side_of(&mut self, col: Ident) -> Result<Side, Halt>
-        ensures { Reads (λ side. side) result self.new.rest.now (side_of col self.old.rest.now) }
-    {
-        if self.is_mark(Mark::Plus) {
-            self.mark(Mark::Plus)?;
-            let number = self.number()?;
-            return Ok(named(col, number));
-        }
-        if self.is_mark(Mark::Minus) {
-            self.mark(Mark::Minus)?;
-            let number = self.number()?;
-            return Ok(named_less(col, number));
-        }
-        Ok(named(col, 0))
+/// Reads what may stand behind the column of a side.
+#[tactic(auto, unfolding(crate::specs::Reading::side_of))]
+pub fn side_of(reader: &mut Reader<'_>, col: Ident) -> Result<Side, ReadStop>
+    ensures { Reads (λ side. side) result reader.new.rest.now (side_of col reader.old.rest.now) }
+{
+    if reader.is_mark(Mark::Plus) {
+        reader.mark(Mark::Plus)?;
+        let number = reader.number()?;
+        return Ok(named(col, number));
     }
+    if reader.is_mark(Mark::Minus) {
+        reader.mark(Mark::Minus)?;
+        let number = reader.number()?;
+        return Ok(named_less(col, number));
+    }
+    Ok(named(col, 0))
+}
 
-    /// Reads a side without a column.
-    #[tactic(auto, unfolding(crate::specs::Reading::fixed_at))]
-    pub fn fixed(&mut self) -> Result<Side, Halt>
-        ensures { Reads (λ side. side) result self.new.rest.now (fixed_at self.old.rest.now) }
-    {
-        if self.is_mark(Mark::Minus) {
-            let spot = self.mark(Mark::Minus)?;
-            let number = self.number()?;
-            return Ok(negated(spot, number));
-        }
-        self.plain_number()
+/// Reads a side without a column.
+#[tactic(auto, unfolding(crate::specs::Reading::fixed_at))]
+pub fn fixed_side(reader: &mut Reader<'_>) -> Result<Side, ReadStop>
+    ensures { Reads (λ side. side) result reader.new.rest.now (fixed_at reader.old.rest.now) }
+{
+    if reader.is_mark(Mark::Minus) {
+        let spot = reader.mark(Mark::Minus)?;
+        let number = reader.number()?;
+        return Ok(negated(spot, number));
     }
+    plain_number(reader)
+}
 
-    /// Reads a side.
-    #[tactic(auto, unfolding(crate::specs::Reading::side_at))]
-    pub fn side(&mut self) -> Result<Side, Halt>
-        ensures { Reads (λ side. side) result self.new.rest.now (side_at self.old.rest.now) }
-    {
-        if self.is_name() {
-            let col = self.name()?;
-            return self.side_of(col);
-        }
-        self.fixed()
+/// Reads a side.
+#[tactic(auto, unfolding(crate::specs::Reading::side_at))]
+pub fn side(reader: &mut Reader<'_>) -> Result<Side, ReadStop>
+    ensures { Reads (λ side. side) result reader.new.rest.now (side_at reader.old.rest.now) }
+{
+    if reader.is_name() {
+        let col = reader.name()?;
+        return side_of(reader, col);
     }
+    fixed_side(reader)
+}
 
-    /// Reads how two sides compare.
-    pub fn order(&mut self) -> Result<Order, Halt>
-        ensures { Reads (λ by. by) result self.new.rest.now (token_at (λ token. order_of token.kind) self.old.rest.now) }
-    {
-        if let [token, rest @ ..] = self.rest {
-            if let Some(by) = order_of(token) {
-                self.rest = rest;
-                return Ok(by);
-            }
+/// Reads how two sides compare.
+pub fn order(reader: &mut Reader<'_>) -> Result<Order, ReadStop>
+    ensures { Reads (λ by. by) result reader.new.rest.now (token_at (λ token. order_of token.kind) reader.old.rest.now) }
+{
+    if let [token, rest @ ..] = reader.rest {
+        if let Some(by) = order_of(token) {
+            reader.rest = rest;
+            return Ok(by);
         }
-        Err(Halt::Faulty(self.misplaced()))
     }
+    Err(ReadStop::Faulty(reader.misplaced()))
 }

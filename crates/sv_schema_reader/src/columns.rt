@@ -1,10 +1,10 @@
 ghost use Rattle.std.specs.Prelude.{◌≡◌};
-ghost use Rattle.sv_schema_reader.specs.Reading.{by_word, kind_named, type_named, merge_named};
+ghost use Rattle.sv_reader.specs.Reading.{by_word, Reads, token_at};
+ghost use Rattle.sv_schema_reader.specs.Reading.{kind_named, type_named, merge_named, table_kind_at, column_type_at, merge_kind_at, column_at, key_at};
 
-use crate::faults::Halt;
-use crate::readers::Reader;
 use sv_app::{Column, Ident, Kind, Merge, Ty};
 use sv_lex::{Mark, Token, TokenKind};
+use sv_reader::{ReadStop, Reader};
 
 /// The two names of a key, or its only one.
 #[derive(Clone, Copy, Debug)]
@@ -80,101 +80,97 @@ fn merge_of(token: &Token) -> Option<Merge>
     }
 }
 
-impl Reader<'_> {
-    ghost use Rattle.sv_schema_reader.specs.Reading.{Reads, token_at, table_kind_at, column_type_at, merge_kind_at, column_at, key_at};
-
-    fn kind_word(&mut self) -> Result<Kind, Halt>
-        ensures { Reads (λ kind. kind) result self.new.rest.now (token_at (λ token. by_word kind_named token.kind) self.old.rest.now) }
-    {
-        if let [token, rest @ ..] = self.rest {
-            if let Some(kind) = kind_of(token) {
-                self.rest = rest;
-                return Ok(kind);
-            }
+fn kind_word(reader: &mut Reader<'_>) -> Result<Kind, ReadStop>
+    ensures { Reads (λ kind. kind) result reader.new.rest.now (token_at (λ token. by_word kind_named token.kind) reader.old.rest.now) }
+{
+    if let [token, rest @ ..] = reader.rest {
+        if let Some(kind) = kind_of(token) {
+            reader.rest = rest;
+            return Ok(kind);
         }
-        Err(Halt::Faulty(self.misplaced()))
     }
+    Err(ReadStop::Faulty(reader.misplaced()))
+}
 
-    fn merge_word(&mut self) -> Result<Merge, Halt>
-        ensures { Reads (λ merge. merge) result self.new.rest.now (token_at (λ token. by_word merge_named token.kind) self.old.rest.now) }
-    {
-        if let [token, rest @ ..] = self.rest {
-            if let Some(merge) = merge_of(token) {
-                self.rest = rest;
-                return Ok(merge);
-            }
+fn merge_word(reader: &mut Reader<'_>) -> Result<Merge, ReadStop>
+    ensures { Reads (λ merge. merge) result reader.new.rest.now (token_at (λ token. by_word merge_named token.kind) reader.old.rest.now) }
+{
+    if let [token, rest @ ..] = reader.rest {
+        if let Some(merge) = merge_of(token) {
+            reader.rest = rest;
+            return Ok(merge);
         }
-        Err(Halt::Faulty(self.misplaced()))
     }
+    Err(ReadStop::Faulty(reader.misplaced()))
+}
 
-    /// Reads the kind of a table, if one is written.
-    #[tactic(auto, unfolding(crate::specs::Reading::table_kind_at))]
-    pub fn table_kind(&mut self) -> Result<Kind, Halt>
-        ensures { Reads (λ kind. kind) result self.new.rest.now (table_kind_at self.old.rest.now) }
-    {
-        if self.is_mark(Mark::At) {
-            self.mark(Mark::At)?;
-            return self.kind_word();
+/// Reads the kind of a table, if one is written.
+#[tactic(auto, unfolding(crate::specs::Reading::table_kind_at))]
+pub fn table_kind(reader: &mut Reader<'_>) -> Result<Kind, ReadStop>
+    ensures { Reads (λ kind. kind) result reader.new.rest.now (table_kind_at reader.old.rest.now) }
+{
+    if reader.is_mark(Mark::At) {
+        reader.mark(Mark::At)?;
+        return kind_word(reader);
+    }
+    Ok(Kind::Plain)
+}
+
+fn column_type(reader: &mut Reader<'_>) -> Result<Ty, ReadStop>
+    ensures { Reads (λ ty. ty) result reader.new.rest.now (column_type_at reader.old.rest.now) }
+{
+    if let [token, rest @ ..] = reader.rest {
+        if let Some(ty) = type_of(token) {
+            reader.rest = rest;
+            return Ok(ty);
         }
-        Ok(Kind::Plain)
     }
+    Err(ReadStop::Faulty(reader.misplaced()))
+}
 
-    fn column_type(&mut self) -> Result<Ty, Halt>
-        ensures { Reads (λ ty. ty) result self.new.rest.now (column_type_at self.old.rest.now) }
-    {
-        if let [token, rest @ ..] = self.rest {
-            if let Some(ty) = type_of(token) {
-                self.rest = rest;
-                return Ok(ty);
-            }
-        }
-        Err(Halt::Faulty(self.misplaced()))
+#[tactic(auto, unfolding(crate::specs::Reading::merge_kind_at))]
+fn merge_kind(reader: &mut Reader<'_>) -> Result<Merge, ReadStop>
+    ensures { Reads (λ merge. merge) result reader.new.rest.now (merge_kind_at reader.old.rest.now) }
+{
+    if reader.is_mark(Mark::At) {
+        reader.mark(Mark::At)?;
+        return merge_word(reader);
     }
+    Ok(Merge::Plain)
+}
 
-    #[tactic(auto, unfolding(crate::specs::Reading::merge_kind_at))]
-    fn merge_kind(&mut self) -> Result<Merge, Halt>
-        ensures { Reads (λ merge. merge) result self.new.rest.now (merge_kind_at self.old.rest.now) }
-    {
-        if self.is_mark(Mark::At) {
-            self.mark(Mark::At)?;
-            return self.merge_word();
-        }
-        Ok(Merge::Plain)
-    }
+/// Reads a column.
+#[tactic(auto, unfolding(crate::specs::Reading::column_at))]
+pub fn column(reader: &mut Reader<'_>) -> Result<Column, ReadStop>
+    ensures { Reads (λ column. column) result reader.new.rest.now (column_at reader.old.rest.now) }
+{
+    let name = reader.name()?;
+    let ty = column_type(reader)?;
+    let merge = merge_kind(reader)?;
+    Ok(Column { name, ty, merge })
+}
 
-    /// Reads a column.
-    #[tactic(auto, unfolding(crate::specs::Reading::column_at))]
-    pub fn column(&mut self) -> Result<Column, Halt>
-        ensures { Reads (λ column. column) result self.new.rest.now (column_at self.old.rest.now) }
-    {
-        let name = self.name()?;
-        let ty = self.column_type()?;
-        let merge = self.merge_kind()?;
-        Ok(Column { name, ty, merge })
-    }
-
-    /// Reads a primary key.
-    #[tactic(auto, unfolding(crate::specs::Reading::key_at))]
-    pub fn key(&mut self) -> Result<KeyNames, Halt>
-        ensures { Reads (λ key. (key.first, key.second)) result self.new.rest.now (key_at self.old.rest.now) }
-    {
-        self.word(b"primary")?;
-        self.word(b"key")?;
-        self.mark(Mark::LeftParen)?;
-        let first = self.name()?;
-        if self.is_mark(Mark::Comma) {
-            self.mark(Mark::Comma)?;
-            let second = self.name()?;
-            self.mark(Mark::RightParen)?;
-            return Ok(KeyNames {
-                first,
-                second: Some(second),
-            });
-        }
-        self.mark(Mark::RightParen)?;
-        Ok(KeyNames {
+/// Reads a primary key.
+#[tactic(auto, unfolding(crate::specs::Reading::key_at))]
+pub fn key(reader: &mut Reader<'_>) -> Result<KeyNames, ReadStop>
+    ensures { Reads (λ key. (key.first, key.second)) result reader.new.rest.now (key_at reader.old.rest.now) }
+{
+    reader.word(b"primary")?;
+    reader.word(b"key")?;
+    reader.mark(Mark::LeftParen)?;
+    let first = reader.name()?;
+    if reader.is_mark(Mark::Comma) {
+        reader.mark(Mark::Comma)?;
+        let second = reader.name()?;
+        reader.mark(Mark::RightParen)?;
+        return Ok(KeyNames {
             first,
-            second: None,
-        })
+            second: Some(second),
+        });
     }
+    reader.mark(Mark::RightParen)?;
+    Ok(KeyNames {
+        first,
+        second: None,
+    })
 }

@@ -4,14 +4,10 @@
 
 mod checks;
 mod columns;
-mod faults;
 mod invariants;
 mod parts;
-mod readers;
 mod reading;
 mod tables;
 
-pub use faults::{Fault, Halt};
 pub use parts::{Order, Side};
-pub use readers::Reader;
 pub use reading::read_schema;

@@ -1,40 +1,32 @@
 ghost use Rattle.std.specs.Prelude.{◌≡◌, ◌≤◌, ◌-◌, ◌+◌, List, Ok, Err, IfOk, length, take, drop, ◌++◌};
 ghost use Rattle.sv_app.specs.declared.refusals.Refusal.{Refusal as IsRefusal};
 ghost use Rattle.sv_app.specs.declared.refusals.Stop.TheVariants.{Refused};
+ghost use Rattle.sv_app.specs.Conditions.{KeepsGrammar, KeepsLimits, AreNumbered};
 ghost use Rattle.sv_app.specs.Schema.{schema_of};
 ghost use Rattle.sv_lex.specs.declared.tokens.Token.{Token as IsToken};
-ghost use Rattle.sv_schema_reader.specs.declared.faults.Fault.{Fault as IsFault};
-ghost use Rattle.sv_schema_reader.specs.declared.faults.Halt.TheVariants.{Faulty};
+ghost use Rattle.sv_reader.specs.declared.faults.ReadFault.{ReadFault as IsFault};
+ghost use Rattle.sv_reader.specs.declared.faults.ReadStop.TheVariants.{Faulty};
 ghost use Rattle.sv_schema_reader.specs.Declarations.{all_declared};
 ghost use Rattle.sv_schema_reader.specs.Grammar.{Written, schema};
 ghost use Rattle.sv_schema_reader.specs.Limits.{AreSmall};
-ghost use Rattle.sv_schema_reader.specs.Reading.{IsLeft, schema_at};
-ghost use Rattle.sv_schema_reader.specs.Refused.{spot_of, BeginsTable, IsRead, IsRefused, IsAnswer};
+ghost use Rattle.sv_reader.specs.Reading.{IsLeft};
+ghost use Rattle.sv_schema_reader.specs.Reading.{schema_at};
+ghost use Rattle.sv_schema_reader.specs.Refused.{BeginsTable, IsRead, IsRefused, IsAnswer};
 
-use crate::faults::Halt;
-use crate::readers::Reader;
+use crate::tables::schema;
 use std::alloc::Global;
-use sv_app::{Refusal, Stop, Table};
+use sv_app::{Stop, Table};
 use sv_lex::Token;
+use sv_reader::{ReadStop, Reader, refusal_of};
 use sv_value::Spot;
 
-/// Where the first of the last `left` tokens stands; the end of the document, if there is none.
-fn spot_of(tokens: &[Token], end: Spot, left: usize) -> Spot
-    ensures { result ≡ spot_of end (drop (length tokens.now - left) tokens.now) }
-{
-    match tokens.get(tokens.len().saturating_sub(left)) {
-        Some(token) => token.spot,
-        None => end,
-    }
-}
-
 /// The tables that stand at the front of the tokens, and how many tokens are left behind them.
-fn read_front(alloc: Global, tokens: &[Token]) -> Result<(Vec<Table>, usize), Halt>
+fn read_front(alloc: Global, tokens: &[Token]) -> Result<(Vec<Table>, usize), ReadStop>
     ensures read { IfOk result (λ read. IsLeft (schema_at tokens.now) (schema_of read.0.items) read.1) }
     ensures fault { (fault : IsFault) → result ≡ Err (Faulty fault) → schema_at tokens.now ≡ Err fault }
 {
     let mut reader = Reader { rest: tokens };
-    let tables = reader.schema(alloc)?;
+    let tables = schema(alloc, &mut reader)?;
     Ok((tables, reader.rest.len()))
 }
 
@@ -56,6 +48,10 @@ pub fn read_schema(
     ensures place { IfOk result (λ read. (at ≤ read.1) × (read.1 ≤ length tokens.now)) }
     // what is read are tables that keep the limits, and no table begins behind them
     ensures read { IfOk result (λ read. IsRead (take (read.1 - at) (drop at tokens.now)) (drop read.1 tokens.now) (schema_of read.0.items)) }
+    // they keep what acceptance asks for
+    ensures grammar { IfOk result (λ read. KeepsGrammar (schema_of read.0.items)) }
+    ensures limits { IfOk result (λ read. KeepsLimits (schema_of read.0.items)) }
+    ensures invariants { IfOk result (λ read. AreNumbered (schema_of read.0.items)) }
     // such tables are read, unless there is no memory
     ensures all { (front rest : List IsToken) (tables : List Written) → drop at tokens.now ≡ front ++ rest → schema tables front → AreSmall tables
         → (BeginsTable rest → ⊥) → IsAnswer result (all_declared tables) (at + length front) }
@@ -64,10 +60,9 @@ pub fn read_schema(
 {
     match read_front(alloc, &tokens[at..]) {
         Ok((tables, left)) => Ok((tables, tokens.len() - left)),
-        Err(Halt::Faulty(fault)) => Err(Stop::Refused(Refusal {
-            spot: spot_of(&tokens[at..], end, fault.left),
-            code: fault.code,
-        })),
-        Err(Halt::NoMemory) => Err(Stop::NoMemory),
+        Err(ReadStop::Faulty(fault)) => {
+            Err(Stop::Refused(refusal_of(&tokens[at..], end, fault)))
+        }
+        Err(ReadStop::NoMemory) => Err(Stop::NoMemory),
     }
 }

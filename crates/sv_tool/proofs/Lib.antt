@@ -4,7 +4,6 @@ pub mod CheckLaws
 pub mod DistinctLaws
 pub mod FitLaws
 pub mod FormLaws
-pub mod GrammarLaws
 pub mod KindLaws
 pub mod LeafLaws
 pub mod ListLaws

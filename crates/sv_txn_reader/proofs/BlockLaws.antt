@@ -9,9 +9,9 @@ use Rattle.sv_app.specs.declared.refusals.Code.TheVariants.{Syntax, Many}
 use Rattle.sv_app.specs.Trees.{Term, Command, Block, Finish, block_from}
 use Rattle.sv_app.specs.Trees as trees
 use Rattle.sv_app.specs.Words.{is_reserved}
-use Rattle.sv_schema_reader.specs.declared.faults.Fault.{Fault}
-use Rattle.sv_schema_reader.specs.Reading.{Read, ◌>>=◌, refuse, by_word, next, is_kind, is_next, given, kind_at, found_at}
-use Rattle.sv_schema_reader.proofs.KindLaws.{kind_is, token_of}
+use Rattle.sv_reader.specs.declared.faults.ReadFault.{ReadFault}
+use Rattle.sv_reader.specs.Reading.{Read, ◌>>=◌, refuse, by_word, next, is_kind, is_next, given, kind_at, found_at}
+use Rattle.sv_reader.proofs.KindLaws.{kind_is, token_of}
 use Rattle.sv_txn_reader.specs.declared.counts.Counts.{Counts}
 use Rattle.sv_txn_reader.specs.declared.heads.Head.{Head}
 use Rattle.sv_txn_reader.specs.declared.heads.Head.TheVariants as heads
@@ -20,10 +20,12 @@ use Rattle.sv_txn_reader.specs.Reading.{head_named, Counted, Several, Blocks, he
 use Rattle.sv_txn_reader.specs.Standing.{counts, plus, command_counts, block_counts}
 use Rattle.sv_txn_reader.proofs.CommandLaws.{standing, one, plus_zero, plus_assoc, Blk, BlocksLaw, block_first, is_else, Cmd, branch, cmd_at, starts, starts_alike, misplaced, by_head, cmd_law, cmd_starts}
 use Rattle.sv_txn_reader.proofs.HeadLaws.{head_token}
-use Rattle.sv_txn_reader.proofs.Laws.{Opens, Passes, Took, Stuck, Misplaced, TooMany, Reads, Law, map_law, read_law, anything}
+use Rattle.sv_reader.proofs.AnswerLaws.{anything}
+use Rattle.sv_txn_reader.proofs.PlacedLaws.{Opens, Passes, Took, Stuck, Misplaced, TooMany, Reads, Law, map_law, read_law}
 use Rattle.sv_txn_reader.proofs.LimitLaws.{places, Limited, limited_law, Goes, Short, Full}
 use Rattle.sv_txn_reader.proofs.ListLaws.{or_false}
-use Rattle.sv_txn_reader.proofs.PieceLaws.{next_alike, kind_next, Made, take, take_last, skip, skip_last, Turns, Stop, Turn, Turning, lawful_turning, turns_law}
+use Rattle.sv_reader.proofs.AnswerLaws.{next_alike}
+use Rattle.sv_txn_reader.proofs.PieceLaws.{kind_next, Made, take, take_last, skip, skip_last, Turns, Stop, Turn, Turning, lawful_turning, turns_law}
 
 -- the token, of which the kind is known
 pub as_kind : (token : Token) (k : TokenKind) → token.kind ≡ k → token ≡ record { kind = k; «from» = token.«from»; to = token.to; spot = token.spot }
@@ -301,7 +303,7 @@ wall_law depth many looped n = record { some = opened; took = λ tokens s rest e
     all : (i : ℕ) (s : Several) (l r : List Token) → Blk depth looped n i s l r → anything r ≡ false → Reads places i (block_at 0 looped n l) s r
     all i s l r b clear = inr (record { left = length l; is = ap (λ t. cond t (refuse Many l) (refuse Syntax l)) (block_first depth looped n i s l r b); late = late i l b.is.first.1 })
 
-    refused : (tokens t : List Token) (fault : Fault) (b : Bool) → tokens ≡ t → is_next (Mark marks.LeftBrace) t ≡ b → ◌≡◌ {A = Read Several} (cond b (refuse Many t) (refuse Syntax t)) (Err fault) → Stuck places (Blk depth looped n) (block_at 0 looped n) tokens fault
+    refused : (tokens t : List Token) (fault : ReadFault) (b : Bool) → tokens ≡ t → is_next (Mark marks.LeftBrace) t ≡ b → ◌≡◌ {A = Read Several} (cond b (refuse Many t) (refuse Syntax t)) (Err fault) → Stuck places (Blk depth looped n) (block_at 0 looped n) tokens fault
     refused tokens [] fault true same t e = absurd cc
     refused tokens (token ∷ others) fault true same t e = record {
       front = [];

@@ -4,12 +4,14 @@ use Rattle.sv_lex.specs.declared.marks.Mark.TheVariants as marks
 use Rattle.sv_lex.specs.declared.tokens.Token.{Token}
 use Rattle.sv_lex.specs.declared.tokens.TokenKind.TheVariants.{Mark}
 use Rattle.sv_app.specs.declared.refusals.Code.TheVariants.{Syntax, Many}
-use Rattle.sv_schema_reader.specs.declared.faults.Fault.{Fault}
-use Rattle.sv_schema_reader.specs.Reading.{refuse, is_next, turns_at}
+use Rattle.sv_reader.specs.declared.faults.ReadFault.{ReadFault}
+use Rattle.sv_reader.specs.Reading.{refuse, is_next, turns_at}
 use Rattle.sv_txn_reader.specs.declared.counts.Counts.{Counts}
-use Rattle.sv_txn_reader.specs.Reading.{Several, keep, goes_on, statement_step, inside_at, braces_at, block_at}
+use Rattle.sv_reader.specs.Reading.{keep}
+use Rattle.sv_txn_reader.specs.Reading.{Several, goes_on, statement_step, inside_at, braces_at, block_at}
 use Rattle.sv_txn_reader.proofs.BlockLaws.{statement_turning, block_law}
-use Rattle.sv_txn_reader.proofs.PieceLaws.{shorter, turn_read, turn_err, turn_end}
+use Rattle.sv_reader.proofs.FuelLaws.{turn_read, turn_err, end_read}
+use Rattle.sv_txn_reader.proofs.PieceLaws.{shorter}
 
 pub block_none : (room : ℕ) (looped : Bool) (n : Counts) (tokens : List Token) → room ≡ 0 → block_at room looped n tokens ≡ (if is_next (Mark marks.LeftBrace) tokens then refuse Many tokens else refuse Syntax tokens)
 unfolding block_at
@@ -31,13 +33,13 @@ one_less room looped a m tokens rest few t e = statement_less room looped a m to
 
 pub one_more : (room : ℕ) (looped : Bool) (a m : Several) (tokens rest : List Token) → room < 8 → goes_on tokens ≡ true → statement_step (block_at room) looped a tokens ≡ Ok (m, rest)
     → turns_at goes_on (statement_step (block_at room) looped) keep a tokens ≡ turns_at goes_on (statement_step (block_at room) looped) keep m rest
-one_more room looped a m tokens rest few t e = turn_read goes_on (statement_step (block_at room) looped) (λ s l m r t e. statement_less room looped s m l r few t e) a tokens m rest t e
+one_more room looped a m tokens rest few t e = turn_read goes_on (statement_step (block_at room) looped) keep (λ s l m r t e. statement_less room looped s m l r few t e) a tokens m rest t e
 
-pub one_err : (room : ℕ) (looped : Bool) (a : Several) (tokens : List Token) (fault : Fault) → room < 8 → goes_on tokens ≡ true → statement_step (block_at room) looped a tokens ≡ Err fault
+pub one_err : (room : ℕ) (looped : Bool) (a : Several) (tokens : List Token) (fault : ReadFault) → room < 8 → goes_on tokens ≡ true → statement_step (block_at room) looped a tokens ≡ Err fault
     → turns_at goes_on (statement_step (block_at room) looped) keep a tokens ≡ Err fault
-one_err room looped a tokens fault few t e = turn_err goes_on (statement_step (block_at room) looped) (λ s l m r t e. statement_less room looped s m l r few t e) a tokens fault t e
+one_err room looped a tokens fault few t e = turn_err goes_on (statement_step (block_at room) looped) keep (λ s l m r t e. statement_less room looped s m l r few t e) a tokens fault t e
 
 pub one_end : (room : ℕ) (looped : Bool) (a : Several) (tokens : List Token) → room < 8 → goes_on tokens ≡ false → turns_at goes_on (statement_step (block_at room) looped) keep a tokens ≡ Ok (a, tokens)
-one_end room looped a tokens few t = turn_end goes_on (statement_step (block_at room) looped) (λ s l m r t e. statement_less room looped s m l r few t e) a tokens t
+one_end room looped a tokens few t = end_read goes_on (statement_step (block_at room) looped) keep (λ s l m r t e. statement_less room looped s m l r few t e) a tokens t
 
 pub ruleset statements = (one_less, one_more, one_err, one_end)

@@ -3,10 +3,11 @@ use Rattle.std.proofs.Common.{◌≡◌, ◌∙◌, ℕ, ◌<◌, ◌≤◌, ◌
 use Rattle.std.proofs.lemmas.Bool.Decides.{nat_tests}
 use Rattle.sv_lex.specs.declared.tokens.Token.{Token}
 use Rattle.sv_app.specs.declared.refusals.Code.TheVariants.{Syntax, Many}
-use Rattle.sv_schema_reader.specs.declared.faults.Fault.{Fault}
-use Rattle.sv_schema_reader.specs.Reading.{Read, ◌>>=◌, refuse, turns_at}
-use Rattle.sv_txn_reader.specs.Reading.{keep}
-use Rattle.sv_txn_reader.proofs.Laws.{Alike, Passes, Took, Stuck, TooMany, Reads, Law, reads_same, took_map, stuck_map, Then, then_law}
+use Rattle.sv_reader.specs.declared.faults.ReadFault.{ReadFault}
+use Rattle.sv_reader.specs.Reading.{Read, ◌>>=◌, refuse, turns_at}
+use Rattle.sv_reader.specs.Reading.{keep}
+use Rattle.sv_reader.proofs.AnswerLaws.{Alike}
+use Rattle.sv_txn_reader.proofs.PlacedLaws.{Passes, Took, Stuck, TooMany, Reads, Law, reads_same, took_map, stuck_map, Then, then_law}
 use Rattle.sv_txn_reader.proofs.LimitLaws.{depths}
 use Rattle.sv_txn_reader.proofs.PieceLaws.{Left, Right, Turns, Stop, Turn, Perhaps, Turning, guarded, turns_law}
 
@@ -70,7 +71,7 @@ module _ {E : Type 0} {before clash test : List Token → Bool} {room : ℕ} {tu
       by_room true f = inr (record { left = length l; is = full_turn a l f; late = late (full a.1 f) is.1 })
       by_room false f = reads_same (free_turn a l f) ((chain.law a (roomy a.1 f)).all i m l r is clear)
 
-  fails : (a : E × ℕ) (tokens : List Token) (fault : Fault) → test tokens ≡ true → turn a tokens ≡ Err fault → Stuck depths (Perhaps (Step room Any) a) (guarded test (turn a)) tokens fault
+  fails : (a : E × ℕ) (tokens : List Token) (fault : ReadFault) → test tokens ≡ true → turn a tokens ≡ Err fault → Stuck depths (Perhaps (Step room Any) a) (guarded test (turn a)) tokens fault
   fails a tokens fault t e = by_room (nat_le room a.1) refl
     where
       passed : (token : Token) → Passes depths (λ _. Any a) (token ∷ []) → Passes depths (Perhaps (Step room Any) a) (token ∷ [])

@@ -7,9 +7,9 @@ use Rattle.sv_app.specs.declared.apps.Ident.{Ident}
 use Rattle.sv_app.specs.declared.refusals.Code.TheVariants.{Syntax, Many}
 use Rattle.sv_app.specs.Trees.{Term, Test, Command, Declare, Assign, Fetch, Choose, ForRows, ForEach, Insert, Update, Remove, Abort, Reply, Block, Finish, block_from}
 use Rattle.sv_app.specs.Trees as trees
-use Rattle.sv_schema_reader.specs.declared.faults.Fault.{Fault}
-use Rattle.sv_schema_reader.specs.Reading.{Read, ◌>>=◌, refuse, is_kind, is_next, name_at, given, found_at, kind_at}
-use Rattle.sv_schema_reader.proofs.KindLaws.{kind_is}
+use Rattle.sv_reader.specs.declared.faults.ReadFault.{ReadFault}
+use Rattle.sv_reader.specs.Reading.{Read, ◌>>=◌, refuse, is_kind, is_next, name_at, given, found_at, kind_at}
+use Rattle.sv_reader.proofs.KindLaws.{kind_is}
 use Rattle.sv_txn_reader.specs.declared.counts.Counts.{Counts}
 use Rattle.sv_txn_reader.specs.declared.heads.Head.{Head}
 use Rattle.sv_txn_reader.specs.declared.heads.Head.TheVariants as heads
@@ -18,11 +18,13 @@ use Rattle.sv_txn_reader.specs.Reading.{Counted, Several, Blocks, head_at, may_b
 use Rattle.sv_txn_reader.specs.Standing.{Standing, counts, plus, command_counts, block_counts}
 use Rattle.sv_txn_reader.proofs.ExprLaws.{cond_law}
 use Rattle.sv_txn_reader.proofs.HeadLaws.{head_of, HeadWord, head_token, head_alike, head_command, command_begins, kind_read}
-use Rattle.sv_txn_reader.proofs.Laws.{Mode, Alike, Opens, Took, Stuck, Misplaced, Reads, Law, reads_same, map_law, clash_law, anything, then_ok, then_err, took_map, stuck_map, opens_map}
+use Rattle.sv_reader.proofs.AnswerLaws.{Alike, anything, then_ok, then_err}
+use Rattle.sv_txn_reader.proofs.PlacedLaws.{Mode, Opens, Took, Stuck, Misplaced, Reads, Law, reads_same, map_law, clash_law, took_map, stuck_map, opens_map}
 use Rattle.sv_txn_reader.proofs.LimitLaws.{places, Limited, limited_law, Short}
 use Rattle.sv_txn_reader.proofs.ListLaws.{or_false}
 use Rattle.sv_txn_reader.proofs.LiteralLaws.{disjoins}
-use Rattle.sv_txn_reader.proofs.PieceLaws.{next_alike, kind_next, name_law, Made, take, take_last, skip, ended, Either, Left, Right, either_law}
+use Rattle.sv_reader.proofs.AnswerLaws.{next_alike}
+use Rattle.sv_txn_reader.proofs.PieceLaws.{kind_next, name_law, Made, take, take_last, skip, ended, Either, Left, Right, either_law}
 use Rattle.sv_txn_reader.proofs.SimpleLaws.{AssignWords, GetWords, InsertWords, UpdateWords, RemoveWords, AbortWords, ReplyWords, let_of, let_law, assign_law, get_law, insert_law, update_law, remove_law, abort_law, reply_law}
 
 abbrev pub standing : ℕ → Bool → Counts → Standing
@@ -561,7 +563,7 @@ module _ (depth : ℕ) (looped : Bool) (before : Counts) (blocks : Blocks) (inne
   cmd_some : Opens places (Cmd depth looped before) []
   cmd_some = opens_map (λ x. x) (λ i c l r is. is.0) [] reply_head.some
 
-  refused_here : (tokens : List Token) (fault : Fault) → starts tokens ≡ false → cmd_at tokens ≡ Err fault → Stuck places (Cmd depth looped before) cmd_at tokens fault
+  refused_here : (tokens : List Token) (fault : ReadFault) → starts tokens ≡ false → cmd_at tokens ≡ Err fault → Stuck places (Cmd depth looped before) cmd_at tokens fault
   refused_here tokens fault t e = record {
     front = [];
     rest = tokens;
@@ -573,7 +575,7 @@ module _ (depth : ℕ) (looped : Bool) (before : Counts) (blocks : Blocks) (inne
     again = λ last alike. misplaced last (sym (starts_alike tokens last alike) ∙ t);
   }
 
-  cmd_fails : (tokens : List Token) (fault : Fault) → cmd_at tokens ≡ Err fault → Stuck places (Cmd depth looped before) cmd_at tokens fault
+  cmd_fails : (tokens : List Token) (fault : ReadFault) → cmd_at tokens ≡ Err fault → Stuck places (Cmd depth looped before) cmd_at tokens fault
   cmd_fails tokens fault e = by_found (head_at tokens) refl
     where
       by_start : (h : Head) → head_at tokens ≡ Some h → (b : Bool) → may_begin looped (Some h) ≡ b → Stuck places (Cmd depth looped before) cmd_at tokens fault

@@ -5,13 +5,13 @@ use Rattle.sv_lex.specs.declared.tokens.Token.{Token}
 use Rattle.sv_app.specs.declared.refusals.Code.{Code}
 use Rattle.sv_app.specs.declared.refusals.Code.TheVariants.{Many}
 use Rattle.sv_app.specs.Trees.{Term, Test}
-use Rattle.sv_schema_reader.specs.declared.faults.Fault.{Fault}
-use Rattle.sv_schema_reader.specs.Reading.{Read}
+use Rattle.sv_reader.specs.declared.faults.ReadFault.{ReadFault}
+use Rattle.sv_reader.specs.Reading.{Read}
 use Rattle.sv_txn_reader.specs.Grammar.{Within, Sums, IsTerm, expr, Disjunctions, IsTest, cond}
 use Rattle.sv_txn_reader.specs.Reading.{expr_at, cond_at}
 use Rattle.sv_txn_reader.proofs.ChainLaws.{Fits}
 use Rattle.sv_txn_reader.proofs.FactorLaws.{Deep, tall, adds}
-use Rattle.sv_txn_reader.proofs.Laws.{Opens, Passes, Took, Stuck, Cause, Misplaced, TooMany, Reads, Law, map_law}
+use Rattle.sv_txn_reader.proofs.PlacedLaws.{Opens, Passes, Took, Stuck, Cause, Misplaced, TooMany, Reads, Law, map_law}
 use Rattle.sv_txn_reader.proofs.LimitLaws.{depths, places}
 use Rattle.sv_txn_reader.proofs.LiteralLaws.{DeepTest, tall_test, disjoins}
 use Rattle.sv_txn_reader.proofs.PieceLaws.{Made, take_last}
@@ -38,7 +38,7 @@ whole_law {A} {clash} {G} {read} law = record { some = opened [] law.some; took 
     caused {front} (Misplaced rest) = Misplaced rest
     caused {front} (TooMany token others passes) = TooMany token others (passed (front ++ token ∷ []) passes)
 
-    stuck : (tokens : List Token) (fault : Fault) → Stuck depths G read tokens fault → Stuck places (Whole G) read tokens fault
+    stuck : (tokens : List Token) (fault : ReadFault) → Stuck depths G read tokens fault → Stuck places (Whole G) read tokens fault
     stuck tokens fault s = record { front = s.front; rest = s.rest; code = s.code; whole = s.whole; place = s.place; opens = opened s.front s.opens; cause = caused s.cause; again = s.again }
 
     never : (i : ℕ) (item : A) (l r : List Token) → Reads depths false (read l) item r → Reads places i (read l) item r

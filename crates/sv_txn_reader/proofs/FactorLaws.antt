@@ -11,17 +11,20 @@ use Rattle.sv_app.specs.declared.apps.Ident.{Ident}
 use Rattle.sv_app.specs.declared.refusals.Code.TheVariants.{Many}
 use Rattle.sv_app.specs.Trees.{Term, Variable, Field, Old, Minus}
 use Rattle.sv_app.specs.Trees as trees
-use Rattle.sv_schema_reader.specs.Reading.{Read, refuse, next, is_kind, is_next}
-use Rattle.sv_schema_reader.proofs.KindLaws.{kind_is, token_of}
-use Rattle.sv_schema_reader.proofs.PartLaws.{name_is}
-use Rattle.sv_txn_reader.specs.Grammar.{Pair, ◌·◌, One, nothing, kind, mark, IsName, name, placed, Rank, Factors, Products, Sums, IsTerm, ANumber, AText, AVariable, AField, AnOld, ASign, AGroup, OneFactor, AProduct, OneProduct, ASum, ADifference}
+use Rattle.sv_reader.specs.Reading.{Read, refuse, next, is_kind, is_next}
+use Rattle.sv_reader.proofs.KindLaws.{kind_is, token_of}
+use Rattle.sv_reader.proofs.PartLaws.{name_is}
+use Rattle.sv_reader.specs.Grammar.{IsName}
+use Rattle.sv_txn_reader.specs.Grammar.{Pair, ◌·◌, One, nothing, kind, mark, name, placed, Rank, Factors, Products, Sums, IsTerm, ANumber, AText, AVariable, AField, AnOld, ASign, AGroup, OneFactor, AProduct, OneProduct, ASum, ADifference}
 use Rattle.sv_txn_reader.specs.Grammar as grammar
 use Rattle.sv_txn_reader.specs.Reading.{Graded, never, literal, leaf_at, sign_at, group_at, factor_with, is_sign}
 use Rattle.sv_txn_reader.proofs.ChainLaws.{Fits}
-use Rattle.sv_txn_reader.proofs.Laws.{Passes, Law, map_law, read_law, anything}
+use Rattle.sv_reader.proofs.AnswerLaws.{anything}
+use Rattle.sv_txn_reader.proofs.PlacedLaws.{Passes, Law, map_law, read_law}
 use Rattle.sv_txn_reader.proofs.LeafLaws.{dotted, Leaf, leaf_at_law, literal_test}
 use Rattle.sv_txn_reader.proofs.LimitLaws.{depths, many_law}
-use Rattle.sv_txn_reader.proofs.PieceLaws.{next_alike, kind_law, kind_next, kind_some, kind_test, Made, take, take_last, skip_last, Either, Left, Right, either_law, a_name, name_token, is_a_name}
+use Rattle.sv_reader.proofs.AnswerLaws.{next_alike}
+use Rattle.sv_txn_reader.proofs.PieceLaws.{kind_law, kind_next, kind_some, kind_test, Made, take, take_last, skip_last, Either, Left, Right, either_law, a_name, name_token, is_a_name}
 
 -- an expression and how much deeper it is than a name, where there is so much room
 pub record Deep (rank : Rank) (room : ℕ) (i : Bool) (g : Graded) (tokens rest : List Token) : Type 0 where

@@ -8,18 +8,20 @@ use Rattle.sv_lex.specs.declared.tokens.TokenKind.TheVariants.{Name}
 use Rattle.sv_app.specs.declared.refusals.Code.{Code}
 use Rattle.sv_app.specs.declared.refusals.Code.TheVariants.{Syntax, Many}
 use Rattle.sv_app.specs.Trees.{Transaction}
-use Rattle.sv_schema_reader.specs.declared.faults.Fault.{Fault}
-use Rattle.sv_schema_reader.specs.Reading.{Read, refuse}
-use Rattle.sv_schema_reader.specs.Refused.{spot_of}
-use Rattle.sv_schema_reader.proofs.KindLaws.{kind_is, kind_same}
+use Rattle.sv_reader.specs.declared.faults.ReadFault.{ReadFault}
+use Rattle.sv_reader.specs.Reading.{Read, refuse}
+use Rattle.sv_reader.specs.Places.{spot_of}
+use Rattle.sv_reader.proofs.KindLaws.{kind_is, kind_same}
 use Rattle.sv_txn_reader.specs.Grammar.{transactions}
-use Rattle.sv_txn_reader.specs.Reading.{begins_txn, txns_at, IsLeft}
+use Rattle.sv_reader.specs.Reading.{IsLeft}
+use Rattle.sv_txn_reader.specs.Reading.{begins_txn, txns_at}
 use Rattle.sv_txn_reader.specs.Refused.{Begins, BeginsWithin, IsRefused, BeginsTxn, AreRead}
-use Rattle.sv_txn_reader.proofs.Laws.{Alike, alike_same, Opens, Passes, Stuck, Cause, Misplaced, TooMany, Reads, Same, same_read}
+use Rattle.sv_reader.proofs.AnswerLaws.{Alike, alike_same, Same, same_read}
+use Rattle.sv_txn_reader.proofs.PlacedLaws.{Opens, Passes, Stuck, Cause, Misplaced, TooMany, Reads}
 use Rattle.sv_txn_reader.proofs.LimitLaws.{places}
 use Rattle.sv_txn_reader.proofs.TxnLaws.{txns_law, txns_stop}
 
-abbrev All : ℕ → List Transaction → List Token → List Token → Type 0
+abbrev pub All : ℕ → List Transaction → List Token → List Token → Type 0
 All i ts = transactions i 0 ts
 
 -- a transaction begins where the test says so
@@ -48,7 +50,7 @@ left_read : (read : Read (List Transaction)) (ts : List Transaction) (left : ℕ
 left_read (Ok (es, rest)) ts left is = (rest, ap (λ (x : List Transaction). Ok (x, rest)) is.0, is.1)
 left_read (Err fault) ts left never = absurd never
 
-never_late : (read : Read (List Transaction)) (ts : List Transaction) (rest : List Token) → Reads places 0 read ts rest → ((fault : Fault) → read ≡ Err fault → ⊥) → read ≡ Ok (ts, rest)
+never_late : (read : Read (List Transaction)) (ts : List Transaction) (rest : List Token) → Reads places 0 read ts rest → ((fault : ReadFault) → read ≡ Err fault → ⊥) → read ≡ Ok (ts, rest)
 never_late read ts rest (inl e) sure = e
 never_late read ts rest (inr over) sure = absurd (sure (record { code = Many; left = over.left }) over.is)
 
@@ -90,12 +92,12 @@ begins_of front p =
       is = subst (λ l. transactions (length (front ++ p.more)) 0 p.item l []) e (p.is (length (front ++ p.more)) [] (let n : length (front ++ (p.more ++ [])) ≡ length (front ++ p.more) = ap length e in omega (arith, n)));
     }
 
-not_read : (ts : List Transaction) (l rest : List Token) (fault : Fault) (i : ℕ) → txns_at l ≡ Err fault → Reads places i (txns_at l) ts rest → (fault.code ≡ Many) × (fault.left ≤ i)
+not_read : (ts : List Transaction) (l rest : List Token) (fault : ReadFault) (i : ℕ) → txns_at l ≡ Err fault → Reads places i (txns_at l) ts rest → (fault.code ≡ Many) × (fault.left ≤ i)
 not_read ts l rest fault i e (inl ok) = let bad : ◌≡◌ {A = Read (List Transaction)} (Ok (ts, rest)) (Err fault) = sym ok ∙ e in absurd cc
 not_read ts l rest fault i e (inr over) =
     let faults : ◌≡◌ {A = Read (List Transaction)} (Err (record { code = Many; left = over.left })) (Err fault) = sym over.is ∙ e in
     let same : record { code = Many; left = over.left } ≡ fault = cc in
-    (λ j. (sym same j).code, subst (λ (f : Fault). f.left ≤ i) same over.late)
+    (λ j. (sym same j).code, subst (λ (f : ReadFault). f.left ≤ i) same over.late)
 
 syntax_many : {A : Type 0} → Syntax ≡ Many → A
 syntax_many e = absurd cc
@@ -107,11 +109,11 @@ closed front token rest code again i more ts is =
     not_read ts (front ++ token ∷ more) [] (record { code = code; left = length (token ∷ more) }) i (again (token ∷ more) refl)
     (txns_law.all i ts (front ++ token ∷ more) [] (subst (λ l. transactions i 0 ts l []) (append_assoc front (token ∷ []) more) is) refl)
 
-pub refused : (tokens : List Token) (end : Spot) (fault : Fault) → txns_at tokens ≡ Err fault → IsRefused tokens end (record { spot = spot_of end (drop (length tokens - fault.left) tokens); code = fault.code })
+pub refused : (tokens : List Token) (end : Spot) (fault : ReadFault) → txns_at tokens ≡ Err fault → IsRefused tokens end (record { spot = spot_of end (drop (length tokens - fault.left) tokens); code = fault.code })
 refused tokens end fault e = by_stuck (txns_law.fails tokens fault e)
   where
     by_stuck : Stuck places All txns_at tokens fault → IsRefused tokens end (record { spot = spot_of end (drop (length tokens - fault.left) tokens); code = fault.code })
-    by_stuck s = subst (λ (f : Fault). IsRefused tokens end (record { spot = spot_of end (drop (length tokens - f.left) tokens); code = f.code })) (sym s.place)
+    by_stuck s = subst (λ (f : ReadFault). IsRefused tokens end (record { spot = spot_of end (drop (length tokens - f.left) tokens); code = f.code })) (sym s.place)
         (subst (λ l. IsRefused tokens end (record { spot = spot_of end l; code = s.code })) (sym rest_is) (by_cause s.rest s.code s.whole s.opens s.cause s.again))
       where
         size : length tokens - length s.rest ≡ length s.front
@@ -143,7 +145,7 @@ refused tokens end fault e = by_stuck (txns_law.fails tokens fault e)
         })
 
 -- what is refused aren't transactions that keep the limits
-pub refused_none : (tokens : List Token) (ts : List Transaction) (rest : List Token) (fault : Fault) → txns_at tokens ≡ Err fault → AreRead ts tokens rest → ⊥
+pub refused_none : (tokens : List Token) (ts : List Transaction) (rest : List Token) (fault : ReadFault) → txns_at tokens ≡ Err fault → AreRead ts tokens rest → ⊥
 refused_none tokens ts rest fault e are = by_late (not_read ts tokens rest fault 0 e (txns_law.all 0 ts tokens rest are.is (no_txn rest are.ends)))
   where
     by_late : (fault.code ≡ Many) × (fault.left ≤ 0) → ⊥
@@ -155,15 +157,15 @@ refused_none tokens ts rest fault e are = by_late (not_read ts tokens rest fault
 
         by_stuck : Stuck places All txns_at tokens fault → ⊥
         by_stuck s =
-            let code : s.code ≡ Many = sym (ap (λ (f : Fault). f.code) s.place) ∙ late.0 in
-            let left : fault.left ≡ length s.rest = ap (λ (f : Fault). f.left) s.place in
+            let code : s.code ≡ Many = sym (ap (λ (f : ReadFault). f.code) s.place) ∙ late.0 in
+            let left : fault.left ≡ length s.rest = ap (λ (f : ReadFault). f.left) s.place in
             by_cause s.front s.rest s.code code (let few = late.1 in omega (arith, left, few)) s.cause
 
 -- transactions are read in one way
 pub read_once : (tokens : List Token) (ts us : List Transaction) (rest last : List Token) → AreRead ts tokens rest → AreRead us tokens last → Same ts us rest last
 read_once tokens ts us rest last first second = by_read (txns_at tokens) refl
   where
-    sure : (read : List Transaction × List Token) → txns_at tokens ≡ Ok read → (fault : Fault) → txns_at tokens ≡ Err fault → ⊥
+    sure : (read : List Transaction × List Token) → txns_at tokens ≡ Ok read → (fault : ReadFault) → txns_at tokens ≡ Err fault → ⊥
     sure read e fault f = let bad : ◌≡◌ {A = Read (List Transaction)} (Ok read) (Err fault) = sym e ∙ f in absurd cc
 
     by_read : (read : Read (List Transaction)) → txns_at tokens ≡ read → Same ts us rest last

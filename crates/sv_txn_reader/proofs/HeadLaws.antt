@@ -8,14 +8,14 @@ use Rattle.sv_app.specs.declared.apps.Ident.{Ident}
 use Rattle.sv_app.specs.declared.refusals.Code.TheVariants.{Syntax}
 use Rattle.sv_app.specs.Trees.{Command, Declare, Assign, Fetch, Choose, ForRows, ForEach, Insert, Update, Remove, Abort, Reply}
 use Rattle.sv_app.specs.Words.{is_reserved}
-use Rattle.sv_schema_reader.specs.Reading.{refuse, by_word, given, is_kind, is_some, name_of, is_name, name_at, kind_at, found_at}
-use Rattle.sv_schema_reader.proofs.KindLaws.{kind_same}
+use Rattle.sv_reader.specs.Reading.{refuse, by_word, given, is_kind, is_some, name_of, is_name, name_at, kind_at, found_at}
+use Rattle.sv_reader.proofs.KindLaws.{kind_same}
 use Rattle.sv_txn_reader.specs.declared.heads.Head.{Head}
 use Rattle.sv_txn_reader.specs.declared.heads.Head.TheVariants as heads
 use Rattle.sv_txn_reader.specs.Grammar.{word, name, command}
 use Rattle.sv_txn_reader.specs.Reading.{head_named, head_at, may_begin}
 use Rattle.sv_txn_reader.specs.Standing.{Standing}
-use Rattle.sv_txn_reader.proofs.Laws.{Alike}
+use Rattle.sv_reader.proofs.AnswerLaws.{Alike}
 
 abbrev pub head_of : Command → Head
 head_of (Declare x e) = heads.Let

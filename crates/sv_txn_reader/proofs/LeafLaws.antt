@@ -9,13 +9,16 @@ use Rattle.sv_app.specs.declared.apps.Ident.{Ident}
 use Rattle.sv_app.specs.Trees.{Term, Variable, Field, Old}
 use Rattle.sv_app.specs.Trees as trees
 use Rattle.sv_app.specs.Words.{is_reserved}
-use Rattle.sv_schema_reader.specs.Reading.{next, is_kind, is_next, is_some, ident_of, name_of, is_name, name_at}
-use Rattle.sv_schema_reader.proofs.KindLaws.{kind_is, token_of}
-use Rattle.sv_txn_reader.specs.Grammar.{Pair, ◌·◌, One, nothing, kind, mark, IsName, name}
+use Rattle.sv_reader.specs.Reading.{next, is_kind, is_next, is_some, ident_of, name_of, is_name, name_at}
+use Rattle.sv_reader.proofs.KindLaws.{kind_is, token_of}
+use Rattle.sv_reader.specs.Grammar.{IsName}
+use Rattle.sv_txn_reader.specs.Grammar.{Pair, ◌·◌, One, nothing, kind, mark, name}
 use Rattle.sv_txn_reader.specs.Grammar as grammar
 use Rattle.sv_txn_reader.specs.Reading.{Graded, literal, literal_of, field_at, old_at, leaf_at}
-use Rattle.sv_txn_reader.proofs.Laws.{Mode, Law, anything, Then, then_law}
-use Rattle.sv_txn_reader.proofs.PieceLaws.{next_alike, Means, leaf_law, kind_law, name_law, name_next, kind_next, kind_some, Made, take, take_last, skip, ended, Either, Left, Right, either_law}
+use Rattle.sv_reader.proofs.AnswerLaws.{anything}
+use Rattle.sv_txn_reader.proofs.PlacedLaws.{Mode, Law, Then, then_law}
+use Rattle.sv_reader.proofs.AnswerLaws.{next_alike}
+use Rattle.sv_txn_reader.proofs.PieceLaws.{Means, leaf_law, kind_law, name_law, name_next, kind_next, kind_some, Made, take, take_last, skip, ended, Either, Left, Right, either_law}
 
 abbrev pub dotted : List Token → Bool
 dotted = is_next (Mark marks.Dot)

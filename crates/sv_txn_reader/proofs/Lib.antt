@@ -8,11 +8,12 @@ pub mod FactorLaws
 pub mod FoundLaws
 pub mod HeadLaws
 pub mod KeptLaws
-pub mod Laws
+pub mod PlacedLaws
 pub mod LeafLaws
 pub mod LimitLaws
 pub mod ListLaws
 pub mod LiteralLaws
+pub mod OnceLaws
 pub mod OperatorLaws
 pub mod PieceLaws
 pub mod RoomLaws

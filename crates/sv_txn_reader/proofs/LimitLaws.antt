@@ -5,10 +5,11 @@ use Rattle.std.proofs.lemmas.List.{length-append}
 use Rattle.sv_lex.specs.declared.tokens.Token.{Token}
 use Rattle.sv_app.specs.declared.refusals.Code.{Code}
 use Rattle.sv_app.specs.declared.refusals.Code.TheVariants.{Syntax, Many}
-use Rattle.sv_schema_reader.specs.declared.faults.Fault.{Fault}
-use Rattle.sv_schema_reader.specs.Reading.{Read, refuse}
+use Rattle.sv_reader.specs.declared.faults.ReadFault.{ReadFault}
+use Rattle.sv_reader.specs.Reading.{Read, refuse}
 use Rattle.sv_txn_reader.specs.Grammar.{Within}
-use Rattle.sv_txn_reader.proofs.Laws.{Mode, Alike, Opens, Passes, Took, Stuck, Cause, Misplaced, TooMany, Reads, Law, reads_same, map_law, read_law, took_map, stuck_map, opens_map}
+use Rattle.sv_reader.proofs.AnswerLaws.{Alike}
+use Rattle.sv_txn_reader.proofs.PlacedLaws.{Mode, Opens, Passes, Took, Stuck, Cause, Misplaced, TooMany, Reads, Law, reads_same, map_law, read_law, took_map, stuck_map, opens_map}
 use Rattle.sv_txn_reader.proofs.PieceLaws.{Either, Left, Right}
 
 pub longer : (a b : List Token) (n : ℕ) → length (a ++ b) ≤ n → length b ≤ n
@@ -37,12 +38,6 @@ depths = record {
   free_behind = λ i a b h. h;
   free_loose = λ i l h. tt;
 }
-
-pub many_syntax : {A : Type 0} (s left : ℕ) → ◌≡◌ {A = Read A} (Err (record { code = Many; left = s })) (Err (record { code = Syntax; left = left })) → ⊥
-many_syntax s left e =
-    let faults : ◌≡◌ {A = Fault} (record { code = Many; left = s }) (record { code = Syntax; left = left }) = cc in
-    let codes : Many ≡ Syntax = λ i. (faults i).code in
-    absurd cc
 
 -- what passes a limit wherever a test is passed, and else reads another language
 pub many_law : {M : Mode} {A : Type 0} {clash : List Token → Bool} {P Q : M.Index → A → List Token → List Token → Type 0} {q : List Token → Read A} (test : List Token → Bool)
@@ -76,7 +71,7 @@ many_law {M} {A} {clash} {P} {Q} {q} test same none law first other begins = rec
     all i a l r (Left is) ends = let f = first i a l r is in inr (record { left = length l; is = yes_read l f.0; late = f.1 })
     all i a l r (Right is) ends = reads_same (no_read l (other i a l r is ends)) (law.all i a l r is ends)
 
-    too_many : (tokens t : List Token) (fault : Fault) → tokens ≡ t → test t ≡ true → ◌≡◌ {A = Read A} (refuse Many t) (Err fault) → Stuck M (Either P Q) (λ l. if test l then refuse Many l else q l) tokens fault
+    too_many : (tokens t : List Token) (fault : ReadFault) → tokens ≡ t → test t ≡ true → ◌≡◌ {A = Read A} (refuse Many t) (Err fault) → Stuck M (Either P Q) (λ l. if test l then refuse Many l else q l) tokens fault
     too_many tokens [] fault e t is = let bad : true ≡ false = sym t ∙ none in absurd cc
     too_many tokens (token ∷ others) fault e t is = record {
       front = [];
@@ -89,7 +84,7 @@ many_law {M} {A} {clash} {P} {Q} {q} test same none law first other begins = rec
       again = λ last alike. yes_read last (sym (same (token ∷ others) last alike) ∙ t);
     }
 
-    by_fails : (tokens : List Token) (fault : Fault) (b : Bool) → test tokens ≡ b → cond b (refuse Many tokens) (q tokens) ≡ Err fault → Stuck M (Either P Q) (λ l. if test l then refuse Many l else q l) tokens fault
+    by_fails : (tokens : List Token) (fault : ReadFault) (b : Bool) → test tokens ≡ b → cond b (refuse Many tokens) (q tokens) ≡ Err fault → Stuck M (Either P Q) (λ l. if test l then refuse Many l else q l) tokens fault
     by_fails tokens fault true t e = too_many tokens tokens fault refl t e
     by_fails tokens fault false t e = stuck_map (λ a. a) (λ i a l r is. Right is) (λ last fault alike e. no_read last (sym (same tokens last alike) ∙ t) ∙ e) (law.fails tokens fault e)
 
@@ -185,7 +180,7 @@ limited_law {A} {clash} {G} {q} test most count same none law first misplaced be
     passed : (token : Token) → Passes places G (token ∷ []) → Passes places (Limited most count G) (token ∷ [])
     passed token p = record { more = p.more; item = p.item; is = λ i m free. (inr free, p.is i m free) }
 
-    refused : (tokens t : List Token) (fault : Fault) (b : Bool) → tokens ≡ t → test t ≡ b → cond b (refuse Many t) (q t) ≡ Err fault → Stuck places (Limited most count G) (λ l. if test l then refuse Many l else q l) tokens fault
+    refused : (tokens t : List Token) (fault : ReadFault) (b : Bool) → tokens ≡ t → test t ≡ b → cond b (refuse Many t) (q t) ≡ Err fault → Stuck places (Limited most count G) (λ l. if test l then refuse Many l else q l) tokens fault
     refused tokens [] fault true e t is = let bad : true ≡ false = sym t ∙ none in absurd cc
     refused tokens (token ∷ others) fault true e t is = record {
       front = [];

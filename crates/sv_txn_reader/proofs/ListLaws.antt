@@ -5,15 +5,19 @@ use Rattle.sv_lex.specs.declared.tokens.Token.{Token}
 use Rattle.sv_lex.specs.declared.tokens.TokenKind.TheVariants.{Mark}
 use Rattle.sv_app.specs.declared.apps.Ident.{Ident}
 use Rattle.sv_app.specs.Trees.{Term}
-use Rattle.sv_schema_reader.specs.declared.faults.Fault.{Fault}
-use Rattle.sv_schema_reader.specs.Reading.{Read, ◌>>=◌, is_kind, is_next, kind_at, turns_at}
+use Rattle.sv_reader.specs.declared.faults.ReadFault.{ReadFault}
+use Rattle.sv_reader.specs.Reading.{Read, ◌>>=◌, is_kind, is_next, kind_at, turns_at}
 use Rattle.sv_txn_reader.specs.Grammar.{◌·◌, nothing, mark, others, separated, expr, keys, index, setting}
-use Rattle.sv_txn_reader.specs.Reading.{keep, expr_at, keys_at, index_at, setting_at, item_step, item_turn, list_of, value_at, set_at}
+use Rattle.sv_reader.specs.Reading.{keep}
+use Rattle.sv_txn_reader.specs.Reading.{expr_at, keys_at, index_at, setting_at, item_step, item_turn, list_of, value_at, set_at}
 use Rattle.sv_txn_reader.proofs.ExprLaws.{expr_law}
 use Rattle.sv_txn_reader.proofs.FactorLaws.{adds}
-use Rattle.sv_txn_reader.proofs.Laws.{Law, map_law, clash_law, anything, Then, then_law}
+use Rattle.sv_reader.proofs.AnswerLaws.{anything}
+use Rattle.sv_txn_reader.proofs.PlacedLaws.{Law, map_law, clash_law, Then, then_law}
 use Rattle.sv_txn_reader.proofs.LimitLaws.{places}
-use Rattle.sv_txn_reader.proofs.PieceLaws.{next_alike, kind_next, name_law, Made, take, take_last, skip, skip_last, ended, Either, Left, Right, either_law, Turns, Stop, Turn, Turning, lawful_turning, turns_law, shorter, turn_read, turn_err, turn_end}
+use Rattle.sv_reader.proofs.AnswerLaws.{next_alike}
+use Rattle.sv_reader.proofs.FuelLaws.{turn_read, turn_err, end_read}
+use Rattle.sv_txn_reader.proofs.PieceLaws.{kind_next, name_law, Made, take, take_last, skip, skip_last, ended, Either, Left, Right, either_law, Turns, Stop, Turn, Turning, lawful_turning, turns_law, shorter}
 
 abbrev pub joins : List Token → Bool
 joins tokens = adds tokens || is_next (Mark marks.Comma) tokens
@@ -202,29 +206,29 @@ set_turning : Turning places adds joins (is_next (Mark marks.Comma)) (item_turn 
 set_turning = item_turning set_law comma_clear joins_adds joins_comma
 
 pub value_more : (a m : List Term) (tokens rest : List Token) → (is_next (Mark marks.Comma)) tokens ≡ true → item_turn value_at a tokens ≡ Ok (m, rest) → turns_at (is_next (Mark marks.Comma)) (item_turn value_at) keep a tokens ≡ turns_at (is_next (Mark marks.Comma)) (item_turn value_at) keep m rest
-value_more a m tokens rest t e = turn_read (is_next (Mark marks.Comma)) (item_turn value_at) (shorter 0 value_turning) a tokens m rest t e
+value_more a m tokens rest t e = turn_read (is_next (Mark marks.Comma)) (item_turn value_at) keep (shorter 0 value_turning) a tokens m rest t e
 
 pub value_less : (a m : List Term) (tokens rest : List Token) → (is_next (Mark marks.Comma)) tokens ≡ true → item_turn value_at a tokens ≡ Ok (m, rest) → length rest < length tokens
 value_less a m tokens rest t e = shorter 0 value_turning a tokens m rest t e
 
-pub value_err : (a : List Term) (tokens : List Token) (fault : Fault) → (is_next (Mark marks.Comma)) tokens ≡ true → item_turn value_at a tokens ≡ Err fault → turns_at (is_next (Mark marks.Comma)) (item_turn value_at) keep a tokens ≡ Err fault
-value_err a tokens fault t e = turn_err (is_next (Mark marks.Comma)) (item_turn value_at) (shorter 0 value_turning) a tokens fault t e
+pub value_err : (a : List Term) (tokens : List Token) (fault : ReadFault) → (is_next (Mark marks.Comma)) tokens ≡ true → item_turn value_at a tokens ≡ Err fault → turns_at (is_next (Mark marks.Comma)) (item_turn value_at) keep a tokens ≡ Err fault
+value_err a tokens fault t e = turn_err (is_next (Mark marks.Comma)) (item_turn value_at) keep (shorter 0 value_turning) a tokens fault t e
 
 pub value_end : (a : List Term) (tokens : List Token) → (is_next (Mark marks.Comma)) tokens ≡ false → turns_at (is_next (Mark marks.Comma)) (item_turn value_at) keep a tokens ≡ Ok (a, tokens)
-value_end a tokens t = turn_end (is_next (Mark marks.Comma)) (item_turn value_at) (shorter 0 value_turning) a tokens t
+value_end a tokens t = end_read (is_next (Mark marks.Comma)) (item_turn value_at) keep (shorter 0 value_turning) a tokens t
 
 pub ruleset values = (value_more, value_less, value_err, value_end)
 
 pub set_more : (a m : List (Ident × Term)) (tokens rest : List Token) → (is_next (Mark marks.Comma)) tokens ≡ true → item_turn set_at a tokens ≡ Ok (m, rest) → turns_at (is_next (Mark marks.Comma)) (item_turn set_at) keep a tokens ≡ turns_at (is_next (Mark marks.Comma)) (item_turn set_at) keep m rest
-set_more a m tokens rest t e = turn_read (is_next (Mark marks.Comma)) (item_turn set_at) (shorter 0 set_turning) a tokens m rest t e
+set_more a m tokens rest t e = turn_read (is_next (Mark marks.Comma)) (item_turn set_at) keep (shorter 0 set_turning) a tokens m rest t e
 
 pub set_less : (a m : List (Ident × Term)) (tokens rest : List Token) → (is_next (Mark marks.Comma)) tokens ≡ true → item_turn set_at a tokens ≡ Ok (m, rest) → length rest < length tokens
 set_less a m tokens rest t e = shorter 0 set_turning a tokens m rest t e
 
-pub set_err : (a : List (Ident × Term)) (tokens : List Token) (fault : Fault) → (is_next (Mark marks.Comma)) tokens ≡ true → item_turn set_at a tokens ≡ Err fault → turns_at (is_next (Mark marks.Comma)) (item_turn set_at) keep a tokens ≡ Err fault
-set_err a tokens fault t e = turn_err (is_next (Mark marks.Comma)) (item_turn set_at) (shorter 0 set_turning) a tokens fault t e
+pub set_err : (a : List (Ident × Term)) (tokens : List Token) (fault : ReadFault) → (is_next (Mark marks.Comma)) tokens ≡ true → item_turn set_at a tokens ≡ Err fault → turns_at (is_next (Mark marks.Comma)) (item_turn set_at) keep a tokens ≡ Err fault
+set_err a tokens fault t e = turn_err (is_next (Mark marks.Comma)) (item_turn set_at) keep (shorter 0 set_turning) a tokens fault t e
 
 pub set_end : (a : List (Ident × Term)) (tokens : List Token) → (is_next (Mark marks.Comma)) tokens ≡ false → turns_at (is_next (Mark marks.Comma)) (item_turn set_at) keep a tokens ≡ Ok (a, tokens)
-set_end a tokens t = turn_end (is_next (Mark marks.Comma)) (item_turn set_at) (shorter 0 set_turning) a tokens t
+set_end a tokens t = end_read (is_next (Mark marks.Comma)) (item_turn set_at) keep (shorter 0 set_turning) a tokens t
 
 pub ruleset sets = (set_more, set_less, set_err, set_end)

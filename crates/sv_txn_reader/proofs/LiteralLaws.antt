@@ -11,15 +11,17 @@ use Rattle.sv_app.specs.declared.txns.Rel.{Rel}
 use Rattle.sv_app.specs.declared.txns.Rel.TheVariants as rels
 use Rattle.sv_app.specs.Trees.{Term, Variable, Test, Compare, Negation}
 use Rattle.sv_app.specs.Words.{is_reserved}
-use Rattle.sv_schema_reader.specs.Reading.{Read, refuse, next, is_kind, is_next, token_at}
-use Rattle.sv_schema_reader.proofs.KindLaws.{kind_is, token_of}
+use Rattle.sv_reader.specs.Reading.{Read, refuse, next, is_kind, is_next, token_at}
+use Rattle.sv_reader.proofs.KindLaws.{kind_is, token_of}
 use Rattle.sv_txn_reader.specs.Grammar.{◌·◌, mark, word, relation, Rank, Sums, IsTerm, ANumber, AText, AVariable, AField, AnOld, ASign, AGroup, OneFactor, AProduct, OneProduct, ASum, ADifference, Join, Literals, Disjunctions, IsTest, AComparison, ANegation, ABracket, OneLiteral, AnAnd, OneConjunction, AnOr}
 use Rattle.sv_txn_reader.specs.Reading.{Graded, Judged, never, relation_named, relation_in, relation_of, comparison_at, negation_at, bracket_at, literal_with}
 use Rattle.sv_txn_reader.proofs.ChainLaws.{Fits}
 use Rattle.sv_txn_reader.proofs.FactorLaws.{Deep, tall, a_term, adds}
-use Rattle.sv_txn_reader.proofs.Laws.{Mode, Passes, Law, map_law, read_law, anything}
+use Rattle.sv_reader.proofs.AnswerLaws.{anything}
+use Rattle.sv_txn_reader.proofs.PlacedLaws.{Mode, Passes, Law, map_law, read_law}
 use Rattle.sv_txn_reader.proofs.LimitLaws.{depths, many_law}
-use Rattle.sv_txn_reader.proofs.PieceLaws.{next_alike, leaf_law, kind_next, Made, take, take_last, skip, skip_last, Either, Left, Right, either_law, a_name, name_token}
+use Rattle.sv_reader.proofs.AnswerLaws.{next_alike}
+use Rattle.sv_txn_reader.proofs.PieceLaws.{leaf_law, kind_next, Made, take, take_last, skip, skip_last, Either, Left, Right, either_law, a_name, name_token}
 
 -- a condition and how much deeper it is than a comparison of names, where there is so much room
 pub record DeepTest (join : Join) (room : ℕ) (i : Bool) (g : Judged) (tokens rest : List Token) : Type 0 where

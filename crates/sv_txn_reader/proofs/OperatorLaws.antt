@@ -2,11 +2,11 @@
 use Rattle.std.proofs.Common.{◌≡◌, ℕ, suc, ◌<◌, ◌≤◌, inl, inr, Bool, true, List, [], ◌∷◌, ◌++◌, Ok, refl, ap, arith, max}
 use Rattle.sv_lex.specs.declared.tokens.Token.{Token}
 use Rattle.sv_lex.specs.declared.tokens.TokenKind.{TokenKind}
-use Rattle.sv_schema_reader.specs.Reading.{Read, ◌>>=◌, is_next, kind_at}
-use Rattle.sv_schema_reader.proofs.KindLaws.{kind_is}
+use Rattle.sv_reader.specs.Reading.{Read, ◌>>=◌, is_next, kind_at}
+use Rattle.sv_reader.proofs.KindLaws.{kind_is}
 use Rattle.sv_txn_reader.specs.Grammar.{◌·◌, kind}
 use Rattle.sv_txn_reader.proofs.ChainLaws.{Fits, Step}
-use Rattle.sv_txn_reader.proofs.Laws.{Passes, Law, map_law}
+use Rattle.sv_txn_reader.proofs.PlacedLaws.{Passes, Law, map_law}
 use Rattle.sv_txn_reader.proofs.LimitLaws.{depths}
 use Rattle.sv_txn_reader.proofs.PieceLaws.{kind_next, Made, take_last, skip}
 

@@ -8,21 +8,16 @@ use Rattle.sv_lex.specs.declared.tokens.TokenKind.TheVariants.{Name}
 use Rattle.sv_app.specs.declared.apps.Ident.{Ident}
 use Rattle.sv_app.specs.declared.refusals.Code.TheVariants.{Syntax}
 use Rattle.sv_app.specs.Words.{is_reserved}
-use Rattle.sv_schema_reader.specs.declared.faults.Fault.{Fault}
-use Rattle.sv_schema_reader.specs.Reading.{Read, ◌>>=◌, refuse, given, next, is_next, is_kind, is_some, found_at, token_at, kind_at, name_of, name_at, is_name, turns_from, turns_at}
-use Rattle.sv_schema_reader.proofs.KindLaws.{kind_is, kind_same, token_of}
-use Rattle.sv_schema_reader.proofs.MadeLaws.{given_some}
-use Rattle.sv_schema_reader.proofs.PartLaws.{name_is, is_named}
-use Rattle.sv_txn_reader.specs.Grammar.{Pair, ◌·◌, One, nothing, kind, IsName, name, Within, limit}
+use Rattle.sv_reader.specs.declared.faults.ReadFault.{ReadFault}
+use Rattle.sv_reader.specs.Reading.{Read, ◌>>=◌, refuse, given, next, is_next, is_kind, is_some, found_at, token_at, kind_at, name_of, name_at, is_name, turns_at, keep}
+use Rattle.sv_reader.proofs.KindLaws.{kind_is, kind_same, token_of}
+use Rattle.sv_reader.proofs.MadeLaws.{given_some}
+use Rattle.sv_reader.proofs.PartLaws.{name_is, is_named}
+use Rattle.sv_reader.proofs.FuelLaws.{turn_on, end_read}
+use Rattle.sv_txn_reader.specs.Grammar.{◌·◌, One, nothing, kind, name}
 use Rattle.sv_txn_reader.specs.Grammar as grammar
-use Rattle.sv_txn_reader.specs.Reading.{keep}
-use Rattle.sv_txn_reader.proofs.Laws.{Mode, Alike, same_read, bound, bound_err, Bound, then_ok, then_err, Opens, Took, Stuck, Misplaced, Reads, Law, anything, reads_same, map_law, Then, then_law, took_then, stuck_first, stuck_second, reads_then, took_map, stuck_map, opens_map}
-
-pub next_alike : (test : Token → Bool) (a b : List Token) → Alike a b → next test a ≡ next test b
-next_alike test [] [] alike = refl
-next_alike test [] (y ∷ b) alike = absurd alike
-next_alike test (x ∷ a) [] alike = absurd alike
-next_alike test (x ∷ a) (y ∷ b) alike = ap test alike
+use Rattle.sv_reader.proofs.AnswerLaws.{Alike, same_read, bound, bound_err, Bound, anything}
+use Rattle.sv_txn_reader.proofs.PlacedLaws.{Mode, Opens, Took, Stuck, Misplaced, Reads, Law, reads_same, map_law, Then, then_law, took_then, stuck_first, stuck_second, reads_then, took_map, stuck_map, opens_map}
 
 -- one token that means something
 abbrev pub Means : (M : Mode) {A : Type 0} → (Token → Option A) → M.Index → A → List Token → List Token → Type 0
@@ -56,7 +51,7 @@ leaf_law M {A} clash meaning sample sampled s = record { some = some; took = too
     all : (i : M.Index) (item : A) (tokens rest : List Token) → Means M meaning i item tokens rest → clash rest ≡ false → Reads M i (token_at meaning tokens) item rest
     all i item tokens rest is ends = inl (ap (token_at meaning) is.next ∙ meant meaning is.token rest item is.holds)
 
-    fails : (tokens : List Token) (fault : Fault) → token_at meaning tokens ≡ Err fault → Stuck M (Means M meaning) (token_at meaning) tokens fault
+    fails : (tokens : List Token) (fault : ReadFault) → token_at meaning tokens ≡ Err fault → Stuck M (Means M meaning) (token_at meaning) tokens fault
     fails [] fault e = record {
       front = [];
       rest = [];
@@ -249,7 +244,7 @@ either_law {M} {A} {clash} {P} {Q} {p} {q} test same left right first other = re
     all i a l r (Left is) ends = reads_same (yes_read l (first i a l r is)) (left.all i a l r is ends)
     all i a l r (Right is) ends = reads_same (no_read l (other i a l r is ends)) (right.all i a l r is ends)
 
-    by_fails : (tokens : List Token) (fault : Fault) (b : Bool) → test tokens ≡ b → cond b (p tokens) (q tokens) ≡ Err fault → Stuck M (Either P Q) (λ l. if test l then p l else q l) tokens fault
+    by_fails : (tokens : List Token) (fault : ReadFault) (b : Bool) → test tokens ≡ b → cond b (p tokens) (q tokens) ≡ Err fault → Stuck M (Either P Q) (λ l. if test l then p l else q l) tokens fault
     by_fails tokens fault true t e = stuck_map (λ a. a) (λ i a l r is. Left is) (λ last fault alike e. yes_read last (sym (same tokens last alike) ∙ t) ∙ e) (left.fails tokens fault e)
     by_fails tokens fault false t e = stuck_map (λ a. a) (λ i a l r is. Right is) (λ last fault alike e. no_read last (sym (same tokens last alike) ∙ t) ∙ e) (right.fails tokens fault e)
 
@@ -262,55 +257,6 @@ pub data Turns {I S : Type 0} (T : S → I → S → List Token → List Token �
 -- a reading of something that the test announces
 abbrev pub guarded : {A : Type 0} → (List Token → Bool) → (List Token → Read A) → List Token → Read A
 guarded test read tokens = if test tokens then read tokens else refuse Syntax tokens
-
-module _ {S : Type 0} (test : List Token → Bool) (turn : S → List Token → Read S)
-    (shorter : (s : S) (tokens : List Token) (m : S) (rest : List Token) → test tokens ≡ true → turn s tokens ≡ Ok (m, rest) → length rest < length tokens) where
-  fuel_same : (n k : ℕ) (s : S) (tokens : List Token) → length tokens < n → length tokens < k → turns_from test turn keep n s tokens ≡ turns_from test turn keep k s tokens
-  unfolding turns_from
-  fuel_same zero k s tokens ln lk = absurd (omega (arith, ln))
-  fuel_same (suc n) zero s tokens ln lk = absurd (omega (arith, lk))
-  fuel_same (suc n) (suc k) s tokens ln lk = by_test (λ m rest a b. fuel_same n k m rest a b) (test tokens) refl
-    where
-      next_read : (read : Read S) → ((m : S) (rest : List Token) → read ≡ Ok (m, rest) → turns_from test turn keep n m rest ≡ turns_from test turn keep k m rest)
-          → (read >>= λ m rest. turns_from test turn keep n m rest) ≡ (read >>= λ m rest. turns_from test turn keep k m rest)
-      next_read (Err fault) same = refl
-      next_read (Ok (m, rest)) same = same m rest refl
-
-      by_turn : ((m : S) (rest : List Token) → length rest < n → length rest < k → turns_from test turn keep n m rest ≡ turns_from test turn keep k m rest)
-          → test tokens ≡ true → (m : S) (rest : List Token) → turn s tokens ≡ Ok (m, rest) → turns_from test turn keep n m rest ≡ turns_from test turn keep k m rest
-      by_turn more t m rest e = let lt = shorter s tokens m rest t e in more m rest (omega (arith, lt, ln)) (omega (arith, lt, lk))
-
-      by_test : ((m : S) (rest : List Token) → length rest < n → length rest < k → turns_from test turn keep n m rest ≡ turns_from test turn keep k m rest) → (b : Bool) → test tokens ≡ b
-          → cond b (turn s tokens >>= λ m rest. turns_from test turn keep n m rest) (keep s tokens) ≡ cond b (turn s tokens >>= λ m rest. turns_from test turn keep k m rest) (keep s tokens)
-      by_test more false t = refl
-      by_test more true t = next_read (turn s tokens) (by_turn more t)
-
-  -- one turn more, if the test is passed
-  pub unrolled : (s : S) (tokens : List Token) → turns_at test turn keep s tokens ≡ (if test tokens then (turn s tokens >>= λ m rest. turns_at test turn keep m rest) else keep s tokens)
-  unfolding turns_from
-  unrolled s tokens = by_test (test tokens) refl
-    where
-      next_read : (read : Read S) → ((m : S) (rest : List Token) → read ≡ Ok (m, rest) → turns_from test turn keep (length tokens) m rest ≡ turns_at test turn keep m rest)
-          → (read >>= λ m rest. turns_from test turn keep (length tokens) m rest) ≡ (read >>= λ m rest. turns_at test turn keep m rest)
-      next_read (Err fault) same = refl
-      next_read (Ok (m, rest)) same = same m rest refl
-
-      by_test : (b : Bool) → test tokens ≡ b
-          → cond b (turn s tokens >>= λ m rest. turns_from test turn keep (length tokens) m rest) (keep s tokens) ≡ cond b (turn s tokens >>= λ m rest. turns_at test turn keep m rest) (keep s tokens)
-      by_test false t = refl
-      by_test true t = next_read (turn s tokens) (λ m rest e. fuel_same (length tokens) (suc (length rest)) m rest (shorter s tokens m rest t e) (omega arith))
-
-  pub turn_on : (s : S) (tokens : List Token) → test tokens ≡ true → turns_at test turn keep s tokens ≡ (turn s tokens >>= λ m rest. turns_at test turn keep m rest)
-  turn_on s tokens t = unrolled s tokens ∙ ap (λ b. cond b (turn s tokens >>= λ m rest. turns_at test turn keep m rest) (keep s tokens)) t
-
-  pub turn_read : (s : S) (tokens : List Token) (m : S) (rest : List Token) → test tokens ≡ true → turn s tokens ≡ Ok (m, rest) → turns_at test turn keep s tokens ≡ turns_at test turn keep m rest
-  turn_read s tokens m rest t e = turn_on s tokens t ∙ then_ok (λ m rest. turns_at test turn keep m rest) e
-
-  pub turn_err : (s : S) (tokens : List Token) (fault : Fault) → test tokens ≡ true → turn s tokens ≡ Err fault → turns_at test turn keep s tokens ≡ Err fault
-  turn_err s tokens fault t e = turn_on s tokens t ∙ then_err (λ m rest. turns_at test turn keep m rest) e
-
-  pub turn_end : (s : S) (tokens : List Token) → test tokens ≡ false → turns_at test turn keep s tokens ≡ Ok (s, tokens)
-  turn_end s tokens t = unrolled s tokens ∙ ap (λ b. cond b (turn s tokens >>= λ m rest. turns_at test turn keep m rest) (keep s tokens)) t
 
 -- nothing, or a turn
 abbrev pub Perhaps : {I S : Type 0} → (S → I → S → List Token → List Token → Type 0) → S → I → S → List Token → List Token → Type 0
@@ -327,8 +273,8 @@ module _ {S : Type 0} (test : List Token → Bool) (turn : S → List Token → 
       by_bound more t b = more b.item b.rest (let less = shorter s tokens b.item b.rest t b.is in omega (arith, less, lt)) b.left
 
       by_test : ((m : S) (r : List Token) → length r < n → turns_at test turn keep m r ≡ Ok (e, rest) → test rest ≡ false) → (b : Bool) → test tokens ≡ b → test rest ≡ false
-      by_test more true t = by_bound more t (bound (turn s tokens) (λ m r. turns_at test turn keep m r) (e, rest) (sym (turn_on test turn shorter s tokens t) ∙ is))
-      by_test more false t = let same = same_read (sym (turn_end test turn shorter s tokens t) ∙ is) in subst (λ l. test l ≡ false) same.rests t
+      by_test more true t = by_bound more t (bound (turn s tokens) (λ m r. turns_at test turn keep m r) (e, rest) (sym (turn_on test turn keep shorter s tokens t) ∙ is))
+      by_test more false t = let same = same_read (sym (end_read test turn keep shorter s tokens t) ∙ is) in subst (λ l. test l ≡ false) same.rests t
 
   -- turns end where the test isn't passed
   pub stopped : (s : S) (tokens : List Token) (e : S) (rest : List Token) → turns_at test turn keep s tokens ≡ Ok (e, rest) → test rest ≡ false
@@ -340,7 +286,7 @@ pub record Turning (M : Mode) {S : Type 0} (before clash test : List Token → B
   pub none : test [] ≡ false
   pub took : (s : S) (tokens : List Token) (m : S) (rest : List Token) → test tokens ≡ true → turn s tokens ≡ Ok (m, rest) → Took M (T s) (guarded test (turn s)) tokens m rest
   pub all : (s : S) (i : M.Index) (m : S) (l r : List Token) → T s i m l r → before r ≡ false → Reads M i (turn s l) m r
-  pub fails : (s : S) (tokens : List Token) (fault : Fault) → test tokens ≡ true → turn s tokens ≡ Err fault → Stuck M (Perhaps T s) (guarded test (turn s)) tokens fault
+  pub fails : (s : S) (tokens : List Token) (fault : ReadFault) → test tokens ≡ true → turn s tokens ≡ Err fault → Stuck M (Perhaps T s) (guarded test (turn s)) tokens fault
   pub first : (s : S) (i : M.Index) (m : S) (l r : List Token) → T s i m l r → test l ≡ true
   pub near_turn : (s : S) (i : M.Index) (m : S) (l r : List Token) → T s i m l r → before l ≡ false
   pub near_end : (l : List Token) → clash l ≡ false → before l ≡ false
@@ -406,12 +352,12 @@ module _ {M : Mode} {S : Type 0} {before clash test : List Token → Bool} {turn
   again_ok : (s : S) (tokens : List Token) → test tokens ≡ true → (last : List Token) (e : S) (m : List Token) → Alike tokens last → (guarded test (turn s) last >>= λ m r. all_turns m r) ≡ Ok (e, m) → all_turns s last ≡ Ok (e, m)
   again_ok s tokens t last e m alike is =
       let on : test last ≡ true = sym (turning.alike tokens last alike) ∙ t in
-      turn_on test turn shorter s last on ∙ ap (λ (r : Read S). r >>= λ m r. all_turns m r) (sym (guard_read s last on)) ∙ is
+      turn_on test turn keep shorter s last on ∙ ap (λ (r : Read S). r >>= λ m r. all_turns m r) (sym (guard_read s last on)) ∙ is
 
-  again_err : (s : S) (tokens : List Token) → test tokens ≡ true → (last : List Token) (fault : Fault) → Alike tokens last → (guarded test (turn s) last >>= λ m r. all_turns m r) ≡ Err fault → all_turns s last ≡ Err fault
+  again_err : (s : S) (tokens : List Token) → test tokens ≡ true → (last : List Token) (fault : ReadFault) → Alike tokens last → (guarded test (turn s) last >>= λ m r. all_turns m r) ≡ Err fault → all_turns s last ≡ Err fault
   again_err s tokens t last fault alike is =
       let on : test last ≡ true = sym (turning.alike tokens last alike) ∙ t in
-      turn_on test turn shorter s last on ∙ ap (λ (r : Read S). r >>= λ m r. all_turns m r) (sym (guard_read s last on)) ∙ is
+      turn_on test turn keep shorter s last on ∙ ap (λ (r : Read S). r >>= λ m r. all_turns m r) (sym (guard_read s last on)) ∙ is
 
   took_end : (s : S) (tokens : List Token) (e : S) (rest : List Token) → test tokens ≡ false → ◌≡◌ {A = Read S} (Ok (s, tokens)) (Ok (e, rest)) → Took M (Rest s) (all_turns s) tokens e rest
   took_end s tokens e rest t is = let same = same_read is in record {
@@ -419,7 +365,7 @@ module _ {M : Mode} {S : Type 0} {before clash test : List Token → Bool} {turn
     whole = same.rests;
     is = λ i m. subst (λ x. Rest s i x m m) same.item (Stop s m m refl);
     again = λ last alike.
-        turn_end test turn shorter s last (sym (turning.alike tokens last (subst (λ l. Alike l last) (sym same.rests) alike)) ∙ t) ∙ ap (λ (x : S). Ok (x, last)) same.item;
+        end_read test turn keep shorter s last (sym (turning.alike tokens last (subst (λ l. Alike l last) (sym same.rests) alike)) ∙ t) ∙ ap (λ (x : S). Ok (x, last)) same.item;
   }
 
   took_from : (n : ℕ) (s : S) (tokens : List Token) (e : S) (rest : List Token) → length tokens < n → all_turns s tokens ≡ Ok (e, rest) → Took M (Rest s) (all_turns s) tokens e rest
@@ -433,10 +379,10 @@ module _ {M : Mode} {S : Type 0} {before clash test : List Token → Bool} {turn
           (more b.item b.rest (let less = shorter s tokens b.item b.rest t b.is in omega (arith, less, lt)) b.left))
 
       by_test : ((m : S) (r : List Token) → length r < n → all_turns m r ≡ Ok (e, rest) → Took M (Rest m) (all_turns m) r e rest) → (b : Bool) → test tokens ≡ b → Took M (Rest s) (all_turns s) tokens e rest
-      by_test more true t = by_bound more t (bound (turn s tokens) (λ m r. all_turns m r) (e, rest) (sym (turn_on test turn shorter s tokens t) ∙ is))
-      by_test more false t = took_end s tokens e rest t (sym (turn_end test turn shorter s tokens t) ∙ is)
+      by_test more true t = by_bound more t (bound (turn s tokens) (λ m r. all_turns m r) (e, rest) (sym (turn_on test turn keep shorter s tokens t) ∙ is))
+      by_test more false t = took_end s tokens e rest t (sym (end_read test turn keep shorter s tokens t) ∙ is)
 
-  fails_from : (n : ℕ) (s : S) (tokens : List Token) (fault : Fault) → length tokens < n → all_turns s tokens ≡ Err fault → Stuck M (Rest s) (all_turns s) tokens fault
+  fails_from : (n : ℕ) (s : S) (tokens : List Token) (fault : ReadFault) → length tokens < n → all_turns s tokens ≡ Err fault → Stuck M (Rest s) (all_turns s) tokens fault
   fails_from zero s tokens fault lt is = absurd (omega (arith, lt))
   fails_from (suc n) s tokens fault lt is = by_test (λ m r fits is. fails_from n m r fault fits is) (test tokens) refl
     where
@@ -449,8 +395,8 @@ module _ {M : Mode} {S : Type 0} {before clash test : List Token → Bool} {turn
           (more b.item b.rest (let less = shorter s tokens b.item b.rest t b.is in omega (arith, less, lt)) b.left))
 
       by_test : ((m : S) (r : List Token) → length r < n → all_turns m r ≡ Err fault → Stuck M (Rest m) (all_turns m) r fault) → (b : Bool) → test tokens ≡ b → Stuck M (Rest s) (all_turns s) tokens fault
-      by_test more true t = by_bound more t (bound_err (turn s tokens) (λ m r. all_turns m r) fault (sym (turn_on test turn shorter s tokens t) ∙ is))
-      by_test more false t = let bad : ◌≡◌ {A = Read S} (Ok (s, tokens)) (Err fault) = sym (turn_end test turn shorter s tokens t) ∙ is in absurd cc
+      by_test more true t = by_bound more t (bound_err (turn s tokens) (λ m r. all_turns m r) fault (sym (turn_on test turn keep shorter s tokens t) ∙ is))
+      by_test more false t = let bad : ◌≡◌ {A = Read S} (Ok (s, tokens)) (Err fault) = sym (end_read test turn keep shorter s tokens t) ∙ is in absurd cc
 
   near : (i : M.Index) (s e : S) (l r : List Token) → Turns T i s e l r → clash r ≡ false → before l ≡ false
   near i _ _ _ _ (Stop s l r is) clear = turning.near_end l (subst (λ x. clash x ≡ false) (sym is) clear)
@@ -458,10 +404,10 @@ module _ {M : Mode} {S : Type 0} {before clash test : List Token → Bool} {turn
 
   all_from : (i : M.Index) (s e : S) (l r : List Token) → Turns T i s e l r → clash r ≡ false → Reads M i (all_turns s l) e r
   all_from i _ _ _ _ (Stop s l r is) clear =
-      inl (turn_end test turn shorter s l (turning.stop l (subst (λ x. clash x ≡ false) (sym is) clear)) ∙ ap (λ (x : List Token). Ok (s, x)) is)
+      inl (end_read test turn keep shorter s l (turning.stop l (subst (λ x. clash x ≡ false) (sym is) clear)) ∙ ap (λ (x : List Token). Ok (s, x)) is)
   all_from i _ _ _ _ (Turn s m e l middle r first more) clear =
       let t : test l ≡ true = turning.first s i m l middle first in
-      reads_same (turn_on test turn shorter s l t ∙ ap (λ (x : Read S). x >>= λ m r. all_turns m r) (sym (guard_read s l t)))
+      reads_same (turn_on test turn keep shorter s l t ∙ ap (λ (x : Read S). x >>= λ m r. all_turns m r) (sym (guard_read s l t)))
       (reads_then M (T s) Rest (guarded test (turn s)) (λ m r. all_turns m r) (reads_same (guard_read s l t) (turning.all s i m l middle first (near i m e middle r more clear))) (all_from i m e middle r more clear))
 
   pub turns_law : (s : S) → Law M clash (λ i. Turns T i s) (turns_at test turn keep s)

@@ -3,15 +3,17 @@ use Rattle.std.proofs.Common.{◌≡◌, ℕ, zero, suc, ◌<◌, ◌≤◌, ◌
 use Rattle.sv_lex.specs.declared.marks.Mark.TheVariants as marks
 use Rattle.sv_lex.specs.declared.tokens.Token.{Token}
 use Rattle.sv_lex.specs.declared.tokens.TokenKind.TheVariants.{Mark}
-use Rattle.sv_schema_reader.specs.declared.faults.Fault.{Fault}
-use Rattle.sv_schema_reader.specs.Reading.{is_next, turns_at}
+use Rattle.sv_reader.specs.declared.faults.ReadFault.{ReadFault}
+use Rattle.sv_reader.specs.Reading.{is_next, turns_at}
 use Rattle.sv_txn_reader.specs.Grammar.{Products}
-use Rattle.sv_txn_reader.specs.Reading.{Graded, keep, factor_with, factor_at, factor_below, products_with, products_at, products_below, sums_with, sums_at, sums_below, product_turn, sum_turn, is_sign}
+use Rattle.sv_reader.specs.Reading.{keep}
+use Rattle.sv_txn_reader.specs.Reading.{Graded, factor_with, factor_at, factor_below, products_with, products_at, products_below, sums_with, sums_at, sums_below, product_turn, sum_turn, is_sign}
 use Rattle.sv_txn_reader.proofs.ChainLaws.{chain_turning}
 use Rattle.sv_txn_reader.proofs.FactorLaws.{Inside, Flat, Nested, Deep, multiplies}
-use Rattle.sv_txn_reader.proofs.Laws.{Law}
+use Rattle.sv_txn_reader.proofs.PlacedLaws.{Law}
 use Rattle.sv_txn_reader.proofs.LimitLaws.{depths}
-use Rattle.sv_txn_reader.proofs.PieceLaws.{shorter, turn_read, turn_err, turn_end}
+use Rattle.sv_reader.proofs.FuelLaws.{turn_read, turn_err, end_read}
+use Rattle.sv_txn_reader.proofs.PieceLaws.{shorter}
 use Rattle.sv_txn_reader.proofs.TermLaws.{product_chain, sum_chain, all_laws}
 
 less_one : (n : ℕ) → n ≡ suc n - 1
@@ -52,17 +54,17 @@ inside (suc room) = Nested room (factor_at room) (sums_at room) (all_laws room).
 
 pub product_more : (room : ℕ) (a m : Graded) (tokens rest : List Token) → (is_next (Mark marks.Star)) tokens ≡ true → product_turn room (factor_below room) a tokens ≡ Ok (m, rest)
     → turns_at (is_next (Mark marks.Star)) (product_turn room (factor_below room)) keep a tokens ≡ turns_at (is_next (Mark marks.Star)) (product_turn room (factor_below room)) keep m rest
-product_more room a m tokens rest t e = turn_read (is_next (Mark marks.Star)) (product_turn room (factor_below room)) (shorter false (chain_turning (product_chain room (factor_below room) (sums_below room) (inside room)))) a tokens m rest t e
+product_more room a m tokens rest t e = turn_read (is_next (Mark marks.Star)) (product_turn room (factor_below room)) keep (shorter false (chain_turning (product_chain room (factor_below room) (sums_below room) (inside room)))) a tokens m rest t e
 
 pub product_less : (room : ℕ) (a m : Graded) (tokens rest : List Token) → (is_next (Mark marks.Star)) tokens ≡ true → product_turn room (factor_below room) a tokens ≡ Ok (m, rest) → length rest < length tokens
 product_less room a m tokens rest t e = shorter false (chain_turning (product_chain room (factor_below room) (sums_below room) (inside room))) a tokens m rest t e
 
-pub product_err : (room : ℕ) (a : Graded) (tokens : List Token) (fault : Fault) → (is_next (Mark marks.Star)) tokens ≡ true → product_turn room (factor_below room) a tokens ≡ Err fault
+pub product_err : (room : ℕ) (a : Graded) (tokens : List Token) (fault : ReadFault) → (is_next (Mark marks.Star)) tokens ≡ true → product_turn room (factor_below room) a tokens ≡ Err fault
     → turns_at (is_next (Mark marks.Star)) (product_turn room (factor_below room)) keep a tokens ≡ Err fault
-product_err room a tokens fault t e = turn_err (is_next (Mark marks.Star)) (product_turn room (factor_below room)) (shorter false (chain_turning (product_chain room (factor_below room) (sums_below room) (inside room)))) a tokens fault t e
+product_err room a tokens fault t e = turn_err (is_next (Mark marks.Star)) (product_turn room (factor_below room)) keep (shorter false (chain_turning (product_chain room (factor_below room) (sums_below room) (inside room)))) a tokens fault t e
 
 pub product_end : (room : ℕ) (a : Graded) (tokens : List Token) → (is_next (Mark marks.Star)) tokens ≡ false → turns_at (is_next (Mark marks.Star)) (product_turn room (factor_below room)) keep a tokens ≡ Ok (a, tokens)
-product_end room a tokens t = turn_end (is_next (Mark marks.Star)) (product_turn room (factor_below room)) (shorter false (chain_turning (product_chain room (factor_below room) (sums_below room) (inside room)))) a tokens t
+product_end room a tokens t = end_read (is_next (Mark marks.Star)) (product_turn room (factor_below room)) keep (shorter false (chain_turning (product_chain room (factor_below room) (sums_below room) (inside room)))) a tokens t
 
 pub ruleset products = (products_read, product_more, product_less, product_err, product_end)
 
@@ -74,16 +76,16 @@ products_inside (suc room) n e = let same : room ≡ n = omega (arith, e) in sub
 
 pub sum_more : (room : ℕ) (a m : Graded) (tokens rest : List Token) → is_sign tokens ≡ true → sum_turn room (products_below room) a tokens ≡ Ok (m, rest)
     → turns_at is_sign (sum_turn room (products_below room)) keep a tokens ≡ turns_at is_sign (sum_turn room (products_below room)) keep m rest
-sum_more room a m tokens rest t e = turn_read is_sign (sum_turn room (products_below room)) (shorter false (chain_turning (sum_chain room (products_below room) (products_inside room)))) a tokens m rest t e
+sum_more room a m tokens rest t e = turn_read is_sign (sum_turn room (products_below room)) keep (shorter false (chain_turning (sum_chain room (products_below room) (products_inside room)))) a tokens m rest t e
 
 pub sum_less : (room : ℕ) (a m : Graded) (tokens rest : List Token) → is_sign tokens ≡ true → sum_turn room (products_below room) a tokens ≡ Ok (m, rest) → length rest < length tokens
 sum_less room a m tokens rest t e = shorter false (chain_turning (sum_chain room (products_below room) (products_inside room))) a tokens m rest t e
 
-pub sum_err : (room : ℕ) (a : Graded) (tokens : List Token) (fault : Fault) → is_sign tokens ≡ true → sum_turn room (products_below room) a tokens ≡ Err fault
+pub sum_err : (room : ℕ) (a : Graded) (tokens : List Token) (fault : ReadFault) → is_sign tokens ≡ true → sum_turn room (products_below room) a tokens ≡ Err fault
     → turns_at is_sign (sum_turn room (products_below room)) keep a tokens ≡ Err fault
-sum_err room a tokens fault t e = turn_err is_sign (sum_turn room (products_below room)) (shorter false (chain_turning (sum_chain room (products_below room) (products_inside room)))) a tokens fault t e
+sum_err room a tokens fault t e = turn_err is_sign (sum_turn room (products_below room)) keep (shorter false (chain_turning (sum_chain room (products_below room) (products_inside room)))) a tokens fault t e
 
 pub sum_end : (room : ℕ) (a : Graded) (tokens : List Token) → is_sign tokens ≡ false → turns_at is_sign (sum_turn room (products_below room)) keep a tokens ≡ Ok (a, tokens)
-sum_end room a tokens t = turn_end is_sign (sum_turn room (products_below room)) (shorter false (chain_turning (sum_chain room (products_below room) (products_inside room)))) a tokens t
+sum_end room a tokens t = end_read is_sign (sum_turn room (products_below room)) keep (shorter false (chain_turning (sum_chain room (products_below room) (products_inside room)))) a tokens t
 
 pub ruleset sums = (sums_read, sum_more, sum_less, sum_err, sum_end)

@@ -9,8 +9,8 @@ use Rattle.sv_lex.specs.declared.tokens.TokenKind.TheVariants.{Name, Number, Tex
 use Rattle.sv_app.specs.declared.apps.Ident.{Ident}
 use Rattle.sv_app.specs.declared.refusals.Code.TheVariants.{Syntax, Many}
 use Rattle.sv_app.specs.Trees.{Term, Command, Declare, Assign, Fetch, Insert, Update, Remove, Abort, Reply}
-use Rattle.sv_schema_reader.specs.Reading.{Read, ◌>>=◌, refuse, is_kind, is_some, name_of, is_name, kind_at, found_at, token_at}
-use Rattle.sv_schema_reader.proofs.KindLaws.{token_of}
+use Rattle.sv_reader.specs.Reading.{Read, ◌>>=◌, refuse, is_kind, is_some, name_of, is_name, kind_at, found_at, token_at}
+use Rattle.sv_reader.proofs.KindLaws.{token_of}
 use Rattle.sv_txn_reader.specs.declared.counts.Counts.{Counts}
 use Rattle.sv_txn_reader.specs.Grammar.{◌·◌, kind, mark, word, name, limit, Within, expr, separated, index, setting, code}
 use Rattle.sv_txn_reader.specs.Reading.{Counted, natural, natural_of, passes, is_large, let_at, assign_at, get_at, insert_at, update_at, remove_at, abort_at, reply_at, setting_at, expr_at}
@@ -18,10 +18,12 @@ use Rattle.sv_txn_reader.specs.Standing.{counts, plus}
 use Rattle.sv_txn_reader.proofs.ExprLaws.{expr_law}
 use Rattle.sv_txn_reader.proofs.FactorLaws.{adds}
 use Rattle.sv_txn_reader.proofs.HeadLaws.{name_misplaced, name_read}
-use Rattle.sv_txn_reader.proofs.Laws.{Passes, Law, map_law, read_law, anything}
+use Rattle.sv_reader.proofs.AnswerLaws.{anything}
+use Rattle.sv_txn_reader.proofs.PlacedLaws.{Passes, Law, map_law, read_law}
 use Rattle.sv_txn_reader.proofs.LimitLaws.{places, many_law, Limited, limited_law, Goes, Short}
 use Rattle.sv_txn_reader.proofs.ListLaws.{joins, index_law, setting_law, values_law, sets_law}
-use Rattle.sv_txn_reader.proofs.PieceLaws.{next_alike, Means, leaf_law, name_law, name_next, Made, take, skip, skip_last, Either, Left, Right}
+use Rattle.sv_reader.proofs.AnswerLaws.{next_alike}
+use Rattle.sv_txn_reader.proofs.PieceLaws.{Means, leaf_law, name_law, name_next, Made, take, skip, skip_last, Either, Left, Right}
 
 abbrev joins_kind : TokenKind → Bool
 joins_kind k = ((is_kind (Mark marks.Dot) k || is_kind (Mark marks.Star) k) || (is_kind (Mark marks.Plus) k || is_kind (Mark marks.Minus) k)) || is_kind (Mark marks.Comma) k

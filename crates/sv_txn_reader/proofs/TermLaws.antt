@@ -4,16 +4,18 @@ use Rattle.sv_lex.specs.declared.marks.Mark.TheVariants as marks
 use Rattle.sv_lex.specs.declared.tokens.Token.{Token}
 use Rattle.sv_lex.specs.declared.tokens.TokenKind.TheVariants.{Mark}
 use Rattle.sv_app.specs.Trees.{Term, Variable, Sum, Difference, Product}
-use Rattle.sv_schema_reader.specs.Reading.{Read, ◌>>=◌, is_kind, is_next, kind_at}
+use Rattle.sv_reader.specs.Reading.{Read, ◌>>=◌, is_kind, is_next, kind_at}
 use Rattle.sv_txn_reader.specs.Grammar.{mark, spot_of, Rank, Factors, Products, Sums, IsTerm, OneFactor, AProduct, OneProduct, ASum, ADifference}
 use Rattle.sv_txn_reader.specs.Reading.{Graded, never, factor_with, factor_at, product_turn, products_with, products_at, is_sign, joined_at, sum_turn, sums_with, sums_at}
 use Rattle.sv_txn_reader.proofs.ChainLaws.{Fits, fits_less, Step, Chain, chain_law, turns_keep, turns_last}
 use Rattle.sv_txn_reader.proofs.FactorLaws.{Deep, tall, a_term, multiplies, adds, Inside, Flat, Nested, factor_law}
-use Rattle.sv_txn_reader.proofs.Laws.{Alike, Passes, Law, map_law, Then, passes_map}
+use Rattle.sv_reader.proofs.AnswerLaws.{Alike}
+use Rattle.sv_txn_reader.proofs.PlacedLaws.{Passes, Law, map_law, Then, passes_map}
 use Rattle.sv_txn_reader.proofs.LeafLaws.{dotted}
 use Rattle.sv_txn_reader.proofs.LimitLaws.{depths}
 use Rattle.sv_txn_reader.proofs.OperatorLaws.{Joined, Sample, Roomy, joined_deeper, joined_first, joined_begins, joined_law}
-use Rattle.sv_txn_reader.proofs.PieceLaws.{next_alike, kind_next, kind_test, Either, Left, Right, either_law, Turns, Stop, a_name, name_token}
+use Rattle.sv_reader.proofs.AnswerLaws.{next_alike}
+use Rattle.sv_txn_reader.proofs.PieceLaws.{kind_next, kind_test, Either, Left, Right, either_law, Turns, Stop, a_name, name_token}
 
 -- an expression and how much deeper it is than a name
 pub record Tall (rank : Rank) (g : Graded) (tokens rest : List Token) : Type 0 where

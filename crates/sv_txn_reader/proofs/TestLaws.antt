@@ -5,16 +5,17 @@ use Rattle.sv_lex.specs.declared.tokens.Token.{Token}
 use Rattle.sv_lex.specs.declared.tokens.TokenKind.TheVariants.{Name, Mark}
 use Rattle.sv_app.specs.declared.txns.Rel.TheVariants as rels
 use Rattle.sv_app.specs.Trees.{Test, Compare, Both, Either as Any}
-use Rattle.sv_schema_reader.specs.Reading.{Read, ◌>>=◌, is_kind, is_next, kind_at}
+use Rattle.sv_reader.specs.Reading.{Read, ◌>>=◌, is_kind, is_next, kind_at}
 use Rattle.sv_txn_reader.specs.Grammar.{word, Join, Literals, Conjunctions, Disjunctions, IsTest, OneLiteral, AnAnd, OneConjunction, AnOr}
 use Rattle.sv_txn_reader.specs.Reading.{Graded, Judged, never, literal_with, literal_at, and_turn, conjunctions_with, conjunctions_at, or_turn, disjunctions_with, disjunctions_at, sums_at}
 use Rattle.sv_txn_reader.proofs.ChainLaws.{Fits, fits_less, Step, Chain, chain_law, turns_keep, turns_last}
 use Rattle.sv_txn_reader.proofs.FactorLaws.{adds}
-use Rattle.sv_txn_reader.proofs.Laws.{Law, map_law, Then}
+use Rattle.sv_txn_reader.proofs.PlacedLaws.{Law, map_law, Then}
 use Rattle.sv_txn_reader.proofs.LimitLaws.{depths}
 use Rattle.sv_txn_reader.proofs.LiteralLaws.{DeepTest, tall_test, a_side, eq_token, a_test, conjoins, disjoins, InsideTest, FlatTest, NestedTest, literal_law}
 use Rattle.sv_txn_reader.proofs.OperatorLaws.{Joined, Sample, Roomy, joined_deeper, joined_first, joined_begins, joined_law}
-use Rattle.sv_txn_reader.proofs.PieceLaws.{next_alike, Turns, Stop, name_token}
+use Rattle.sv_reader.proofs.AnswerLaws.{next_alike}
+use Rattle.sv_txn_reader.proofs.PieceLaws.{Turns, Stop, name_token}
 use Rattle.sv_txn_reader.proofs.TermLaws.{all_laws}
 
 -- a condition and how much deeper it is than a comparison of names

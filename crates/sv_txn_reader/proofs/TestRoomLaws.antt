@@ -2,15 +2,18 @@
 use Rattle.std.proofs.Common.{◌≡◌, ◌∙◌, ℕ, zero, suc, ◌<◌, ◌≤◌, ◌-◌, true, false, List, length, Ok, Err, refl, sym, ap, subst, arith, codes}
 use Rattle.sv_lex.specs.declared.tokens.Token.{Token}
 use Rattle.sv_lex.specs.declared.tokens.TokenKind.TheVariants.{Name}
-use Rattle.sv_schema_reader.specs.declared.faults.Fault.{Fault}
-use Rattle.sv_schema_reader.specs.Reading.{is_next, turns_at}
+use Rattle.sv_reader.specs.declared.faults.ReadFault.{ReadFault}
+use Rattle.sv_reader.specs.Reading.{is_next, turns_at}
 use Rattle.sv_txn_reader.specs.Grammar.{Conjunctions}
-use Rattle.sv_txn_reader.specs.Reading.{Judged, keep, sums_at, literal_with, literal_at, literal_below, and_turn, conjunctions_with, conjunctions_at, conjunctions_below, or_turn, disjunctions_with, disjunctions_at, disjunctions_below}
+use Rattle.sv_reader.specs.Reading.{keep}
+use Rattle.sv_txn_reader.specs.Reading.{Judged, sums_at, literal_with, literal_at, literal_below, and_turn, conjunctions_with, conjunctions_at, conjunctions_below, or_turn, disjunctions_with, disjunctions_at, disjunctions_below}
 use Rattle.sv_txn_reader.proofs.ChainLaws.{chain_turning}
-use Rattle.sv_txn_reader.proofs.Laws.{Law, then_ok}
+use Rattle.sv_reader.proofs.AnswerLaws.{then_ok}
+use Rattle.sv_txn_reader.proofs.PlacedLaws.{Law}
 use Rattle.sv_txn_reader.proofs.LimitLaws.{depths}
 use Rattle.sv_txn_reader.proofs.LiteralLaws.{DeepTest, InsideTest, FlatTest, NestedTest, conjoins}
-use Rattle.sv_txn_reader.proofs.PieceLaws.{shorter, turn_read, turn_err, turn_end}
+use Rattle.sv_reader.proofs.FuelLaws.{turn_read, turn_err, end_read}
+use Rattle.sv_txn_reader.proofs.PieceLaws.{shorter}
 use Rattle.sv_txn_reader.proofs.TermLaws.{all_laws}
 use Rattle.sv_txn_reader.proofs.TestLaws.{and_chain, or_chain, all_tests}
 
@@ -52,17 +55,17 @@ inside (suc room) = NestedTest room (sums_at (suc room)) (literal_at room) (disj
 
 pub and_more : (room : ℕ) (a m : Judged) (tokens rest : List Token) → (is_next (Name (codes "and"))) tokens ≡ true → and_turn room (literal_below room) a tokens ≡ Ok (m, rest)
     → turns_at (is_next (Name (codes "and"))) (and_turn room (literal_below room)) keep a tokens ≡ turns_at (is_next (Name (codes "and"))) (and_turn room (literal_below room)) keep m rest
-and_more room a m tokens rest t e = turn_read (is_next (Name (codes "and"))) (and_turn room (literal_below room)) (shorter false (chain_turning (and_chain room (sums_at room) (literal_below room) (disjunctions_below room) (inside room)))) a tokens m rest t e
+and_more room a m tokens rest t e = turn_read (is_next (Name (codes "and"))) (and_turn room (literal_below room)) keep (shorter false (chain_turning (and_chain room (sums_at room) (literal_below room) (disjunctions_below room) (inside room)))) a tokens m rest t e
 
 pub and_less : (room : ℕ) (a m : Judged) (tokens rest : List Token) → (is_next (Name (codes "and"))) tokens ≡ true → and_turn room (literal_below room) a tokens ≡ Ok (m, rest) → length rest < length tokens
 and_less room a m tokens rest t e = shorter false (chain_turning (and_chain room (sums_at room) (literal_below room) (disjunctions_below room) (inside room))) a tokens m rest t e
 
-pub and_err : (room : ℕ) (a : Judged) (tokens : List Token) (fault : Fault) → (is_next (Name (codes "and"))) tokens ≡ true → and_turn room (literal_below room) a tokens ≡ Err fault
+pub and_err : (room : ℕ) (a : Judged) (tokens : List Token) (fault : ReadFault) → (is_next (Name (codes "and"))) tokens ≡ true → and_turn room (literal_below room) a tokens ≡ Err fault
     → turns_at (is_next (Name (codes "and"))) (and_turn room (literal_below room)) keep a tokens ≡ Err fault
-and_err room a tokens fault t e = turn_err (is_next (Name (codes "and"))) (and_turn room (literal_below room)) (shorter false (chain_turning (and_chain room (sums_at room) (literal_below room) (disjunctions_below room) (inside room)))) a tokens fault t e
+and_err room a tokens fault t e = turn_err (is_next (Name (codes "and"))) (and_turn room (literal_below room)) keep (shorter false (chain_turning (and_chain room (sums_at room) (literal_below room) (disjunctions_below room) (inside room)))) a tokens fault t e
 
 pub and_end : (room : ℕ) (a : Judged) (tokens : List Token) → (is_next (Name (codes "and"))) tokens ≡ false → turns_at (is_next (Name (codes "and"))) (and_turn room (literal_below room)) keep a tokens ≡ Ok (a, tokens)
-and_end room a tokens t = turn_end (is_next (Name (codes "and"))) (and_turn room (literal_below room)) (shorter false (chain_turning (and_chain room (sums_at room) (literal_below room) (disjunctions_below room) (inside room)))) a tokens t
+and_end room a tokens t = end_read (is_next (Name (codes "and"))) (and_turn room (literal_below room)) keep (shorter false (chain_turning (and_chain room (sums_at room) (literal_below room) (disjunctions_below room) (inside room)))) a tokens t
 
 -- the first part, turns behind it, and their end
 pub and_done : (room : ℕ) (tokens : List Token) (a : Judged) (r : List Token) (m : Judged) (rest : List Token) → literal_at room tokens ≡ Ok (a, r)
@@ -80,17 +83,17 @@ conjunctions_inside (suc room) n e = let same : room ≡ n = omega (arith, e) in
 
 pub or_more : (room : ℕ) (a m : Judged) (tokens rest : List Token) → (is_next (Name (codes "or"))) tokens ≡ true → or_turn room (conjunctions_below room) a tokens ≡ Ok (m, rest)
     → turns_at (is_next (Name (codes "or"))) (or_turn room (conjunctions_below room)) keep a tokens ≡ turns_at (is_next (Name (codes "or"))) (or_turn room (conjunctions_below room)) keep m rest
-or_more room a m tokens rest t e = turn_read (is_next (Name (codes "or"))) (or_turn room (conjunctions_below room)) (shorter false (chain_turning (or_chain room (conjunctions_below room) (conjunctions_inside room)))) a tokens m rest t e
+or_more room a m tokens rest t e = turn_read (is_next (Name (codes "or"))) (or_turn room (conjunctions_below room)) keep (shorter false (chain_turning (or_chain room (conjunctions_below room) (conjunctions_inside room)))) a tokens m rest t e
 
 pub or_less : (room : ℕ) (a m : Judged) (tokens rest : List Token) → (is_next (Name (codes "or"))) tokens ≡ true → or_turn room (conjunctions_below room) a tokens ≡ Ok (m, rest) → length rest < length tokens
 or_less room a m tokens rest t e = shorter false (chain_turning (or_chain room (conjunctions_below room) (conjunctions_inside room))) a tokens m rest t e
 
-pub or_err : (room : ℕ) (a : Judged) (tokens : List Token) (fault : Fault) → (is_next (Name (codes "or"))) tokens ≡ true → or_turn room (conjunctions_below room) a tokens ≡ Err fault
+pub or_err : (room : ℕ) (a : Judged) (tokens : List Token) (fault : ReadFault) → (is_next (Name (codes "or"))) tokens ≡ true → or_turn room (conjunctions_below room) a tokens ≡ Err fault
     → turns_at (is_next (Name (codes "or"))) (or_turn room (conjunctions_below room)) keep a tokens ≡ Err fault
-or_err room a tokens fault t e = turn_err (is_next (Name (codes "or"))) (or_turn room (conjunctions_below room)) (shorter false (chain_turning (or_chain room (conjunctions_below room) (conjunctions_inside room)))) a tokens fault t e
+or_err room a tokens fault t e = turn_err (is_next (Name (codes "or"))) (or_turn room (conjunctions_below room)) keep (shorter false (chain_turning (or_chain room (conjunctions_below room) (conjunctions_inside room)))) a tokens fault t e
 
 pub or_end : (room : ℕ) (a : Judged) (tokens : List Token) → (is_next (Name (codes "or"))) tokens ≡ false → turns_at (is_next (Name (codes "or"))) (or_turn room (conjunctions_below room)) keep a tokens ≡ Ok (a, tokens)
-or_end room a tokens t = turn_end (is_next (Name (codes "or"))) (or_turn room (conjunctions_below room)) (shorter false (chain_turning (or_chain room (conjunctions_below room) (conjunctions_inside room)))) a tokens t
+or_end room a tokens t = end_read (is_next (Name (codes "or"))) (or_turn room (conjunctions_below room)) keep (shorter false (chain_turning (or_chain room (conjunctions_below room) (conjunctions_inside room)))) a tokens t
 
 -- the first part, turns behind it, and their end
 pub or_done : (room : ℕ) (tokens : List Token) (a : Judged) (r : List Token) (m : Judged) (rest : List Token) → conjunctions_at room tokens ≡ Ok (a, r)

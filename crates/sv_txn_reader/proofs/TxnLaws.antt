@@ -12,19 +12,23 @@ use Rattle.sv_app.specs.declared.refusals.Code.TheVariants.{Syntax, Many}
 use Rattle.sv_app.specs.declared.schemas.Ty.{Ty}
 use Rattle.sv_app.specs.declared.schemas.Ty.TheVariants as types
 use Rattle.sv_app.specs.Trees.{Transaction, block_from}
-use Rattle.sv_schema_reader.specs.declared.faults.Fault.{Fault}
-use Rattle.sv_schema_reader.specs.Reading.{Read, ◌>>=◌, refuse, by_word, given, found_at, next, is_kind, is_next, is_some, name_of, is_name, name_at, kind_at, token_at, turns_at}
-use Rattle.sv_schema_reader.proofs.KindLaws.{kind_is, token_of}
+use Rattle.sv_reader.specs.declared.faults.ReadFault.{ReadFault}
+use Rattle.sv_reader.specs.Reading.{Read, ◌>>=◌, refuse, by_word, given, found_at, next, is_kind, is_next, is_some, name_of, is_name, name_at, kind_at, token_at, turns_at}
+use Rattle.sv_reader.proofs.KindLaws.{kind_is, token_of}
 use Rattle.sv_txn_reader.specs.Grammar.{◌·◌, nothing, mark, word, name, block, type_word, param, more_params, params, transaction, transactions}
-use Rattle.sv_txn_reader.specs.Reading.{Several, keep, type_named, param_at, params_at, item_turn, list_of, block_at, txn_at, begins_txn, txn_step, txns_at}
+use Rattle.sv_reader.specs.Reading.{keep}
+use Rattle.sv_txn_reader.specs.Reading.{Several, type_named, param_at, params_at, item_turn, list_of, block_at, txn_at, begins_txn, txn_step, txns_at}
 use Rattle.sv_txn_reader.specs.Standing.{counts, outside, plus, block_counts}
 use Rattle.sv_txn_reader.proofs.BlockLaws.{as_kind, block_law}
 use Rattle.sv_txn_reader.proofs.CommandLaws.{Blk, commands_of, from_commands}
 use Rattle.sv_txn_reader.proofs.HeadLaws.{name_misplaced, name_read}
-use Rattle.sv_txn_reader.proofs.Laws.{Law, map_law, read_law, clash_law, anything, then_ok, then_err}
+use Rattle.sv_reader.proofs.AnswerLaws.{anything, then_ok, then_err}
+use Rattle.sv_txn_reader.proofs.PlacedLaws.{Law, map_law, read_law, clash_law}
 use Rattle.sv_txn_reader.proofs.LimitLaws.{places, Limited, limited_law, Goes, Short}
 use Rattle.sv_txn_reader.proofs.ListLaws.{Listed, more_items, list_law, item_turning, or_false}
-use Rattle.sv_txn_reader.proofs.PieceLaws.{next_alike, leaf_law, kind_next, name_law, name_next, Made, take, take_last, skip, ended, Either, Left, Right, either_law, Turns, Stop, Turn, Turning, lawful_turning, turns_law, shorter, stopped, turn_read, turn_err, turn_end}
+use Rattle.sv_reader.proofs.AnswerLaws.{next_alike}
+use Rattle.sv_reader.proofs.FuelLaws.{turn_read, turn_err, end_read}
+use Rattle.sv_txn_reader.proofs.PieceLaws.{leaf_law, kind_next, name_law, name_next, Made, take, take_last, skip, ended, Either, Left, Right, either_law, Turns, Stop, Turn, Turning, lawful_turning, turns_law, shorter, stopped}
 
 -- types of parameters
 
@@ -293,29 +297,29 @@ unfolding txns_at
 txns_stop tokens ts rest e = stopped begins_txn txn_step (shorter 0 txn_turning) [] tokens ts rest e
 
 pub param_more : (a m : List (Ident × Ty)) (tokens rest : List Token) → (is_next (Mark marks.Comma)) tokens ≡ true → item_turn param_at a tokens ≡ Ok (m, rest) → turns_at (is_next (Mark marks.Comma)) (item_turn param_at) keep a tokens ≡ turns_at (is_next (Mark marks.Comma)) (item_turn param_at) keep m rest
-param_more a m tokens rest t e = turn_read (is_next (Mark marks.Comma)) (item_turn param_at) (shorter 0 param_turning) a tokens m rest t e
+param_more a m tokens rest t e = turn_read (is_next (Mark marks.Comma)) (item_turn param_at) keep (shorter 0 param_turning) a tokens m rest t e
 
 pub param_less : (a m : List (Ident × Ty)) (tokens rest : List Token) → (is_next (Mark marks.Comma)) tokens ≡ true → item_turn param_at a tokens ≡ Ok (m, rest) → length rest < length tokens
 param_less a m tokens rest t e = shorter 0 param_turning a tokens m rest t e
 
-pub param_err : (a : List (Ident × Ty)) (tokens : List Token) (fault : Fault) → (is_next (Mark marks.Comma)) tokens ≡ true → item_turn param_at a tokens ≡ Err fault → turns_at (is_next (Mark marks.Comma)) (item_turn param_at) keep a tokens ≡ Err fault
-param_err a tokens fault t e = turn_err (is_next (Mark marks.Comma)) (item_turn param_at) (shorter 0 param_turning) a tokens fault t e
+pub param_err : (a : List (Ident × Ty)) (tokens : List Token) (fault : ReadFault) → (is_next (Mark marks.Comma)) tokens ≡ true → item_turn param_at a tokens ≡ Err fault → turns_at (is_next (Mark marks.Comma)) (item_turn param_at) keep a tokens ≡ Err fault
+param_err a tokens fault t e = turn_err (is_next (Mark marks.Comma)) (item_turn param_at) keep (shorter 0 param_turning) a tokens fault t e
 
 pub param_end : (a : List (Ident × Ty)) (tokens : List Token) → (is_next (Mark marks.Comma)) tokens ≡ false → turns_at (is_next (Mark marks.Comma)) (item_turn param_at) keep a tokens ≡ Ok (a, tokens)
-param_end a tokens t = turn_end (is_next (Mark marks.Comma)) (item_turn param_at) (shorter 0 param_turning) a tokens t
+param_end a tokens t = end_read (is_next (Mark marks.Comma)) (item_turn param_at) keep (shorter 0 param_turning) a tokens t
 
 pub ruleset all_params = (param_more, param_less, param_err, param_end)
 
 pub txn_more : (a m : List Transaction) (tokens rest : List Token) → begins_txn tokens ≡ true → txn_step a tokens ≡ Ok (m, rest) → turns_at begins_txn (txn_step) keep a tokens ≡ turns_at begins_txn (txn_step) keep m rest
-txn_more a m tokens rest t e = turn_read begins_txn (txn_step) (shorter 0 txn_turning) a tokens m rest t e
+txn_more a m tokens rest t e = turn_read begins_txn (txn_step) keep (shorter 0 txn_turning) a tokens m rest t e
 
 pub txn_less : (a m : List Transaction) (tokens rest : List Token) → begins_txn tokens ≡ true → txn_step a tokens ≡ Ok (m, rest) → length rest < length tokens
 txn_less a m tokens rest t e = shorter 0 txn_turning a tokens m rest t e
 
-pub txn_err : (a : List Transaction) (tokens : List Token) (fault : Fault) → begins_txn tokens ≡ true → txn_step a tokens ≡ Err fault → turns_at begins_txn (txn_step) keep a tokens ≡ Err fault
-txn_err a tokens fault t e = turn_err begins_txn (txn_step) (shorter 0 txn_turning) a tokens fault t e
+pub txn_err : (a : List Transaction) (tokens : List Token) (fault : ReadFault) → begins_txn tokens ≡ true → txn_step a tokens ≡ Err fault → turns_at begins_txn (txn_step) keep a tokens ≡ Err fault
+txn_err a tokens fault t e = turn_err begins_txn (txn_step) keep (shorter 0 txn_turning) a tokens fault t e
 
 pub txn_end : (a : List Transaction) (tokens : List Token) → begins_txn tokens ≡ false → turns_at begins_txn (txn_step) keep a tokens ≡ Ok (a, tokens)
-txn_end a tokens t = turn_end begins_txn (txn_step) (shorter 0 txn_turning) a tokens t
+txn_end a tokens t = end_read begins_txn (txn_step) keep (shorter 0 txn_turning) a tokens t
 
 pub ruleset all_txns = (txn_more, txn_less, txn_err, txn_end)

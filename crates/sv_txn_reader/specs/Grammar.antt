@@ -12,10 +12,9 @@ use Rattle.sv_app.specs.declared.schemas.Ty.{Ty}
 use Rattle.sv_app.specs.declared.schemas.Ty.TheVariants as types
 use Rattle.sv_app.specs.declared.txns.Rel.{Rel}
 use Rattle.sv_app.specs.declared.txns.Rel.TheVariants as rels
-use Rattle.sv_app.specs.Trees.{Term, Number, Words, Variable, Field, Old, Minus, Sum, Difference, Product, Test, Compare, Negation, Both, Either}
-use Rattle.sv_app.specs.Trees.{Command, Declare, Assign, Fetch, Choose, ForRows, ForEach, Insert, Update, Remove, Abort, Reply, Block, Finish, Then, Transaction}
-use Rattle.sv_app.specs.Words.{is_reserved}
+use Rattle.sv_app.specs.Trees.{Term, Number, Words, Variable, Field, Old, Minus, Sum, Difference, Product, Test, Compare, Negation, Both, Either, Command, Declare, Assign, Fetch, Choose, ForRows, ForEach, Insert, Update, Remove, Abort, Reply, Block, Finish, Then, Transaction}
 use Rattle.sv_txn_reader.specs.Standing.{Standing, outside, one_statement, deeper, in_loop, behind, past_command}
+use Rattle.sv_reader.specs.Grammar.{IsName}
 
 -- one part and, behind it, another
 pub record Pair (First Second : List Token → List Token → Type 0) (tokens rest : List Token) : Type 0 where
@@ -48,10 +47,6 @@ mark wanted = kind (kinds.Mark wanted)
 -- a token of this kind at this place
 abbrev pub kind_at : Spot → TokenKind → List Token → List Token → Type 0
 kind_at spot wanted = One (λ token. (token.kind ≡ wanted) × (token.spot ≡ spot))
-
--- NAME, which is no reserved word; it names nothing yet
-abbrev pub IsName : Ident → Token → Type 0
-IsName ident token = (token.kind ≡ kinds.Name ident.name) × (is_reserved ident.name ≡ false) × (token.spot ≡ ident.spot) × (ident.num ≡ 0)
 
 abbrev pub name : Ident → List Token → List Token → Type 0
 name ident = One (IsName ident)

@@ -1,5 +1,5 @@
 -- Reading transactions from left to right: what some tokens begin with, and the tokens behind it.
-use Rattle.std.specs.Prelude.{◌≡◌, ℕ, zero, suc, ℤ, pos, max, Bool, true, false, not, ◌&&◌, ◌||◌, if◌then◌else◌, nat_le, nat_lt, List, [], ◌∷◌, ◌++◌, length, Option, Some, None, Ok, Err, bytes_eq, codes}
+use Rattle.std.specs.Prelude.{ℕ, zero, suc, ℤ, pos, max, Bool, true, false, not, ◌&&◌, ◌||◌, if◌then◌else◌, nat_le, nat_lt, List, [], ◌∷◌, ◌++◌, length, Option, Some, None, Ok, bytes_eq, codes}
 use Rattle.sv_value.specs.declared.spots.Spot.{Spot}
 use Rattle.sv_lex.specs.declared.marks.Mark.{Mark as IsMark}
 use Rattle.sv_lex.specs.declared.marks.Mark.TheVariants as marks
@@ -12,10 +12,10 @@ use Rattle.sv_app.specs.declared.schemas.Ty.{Ty}
 use Rattle.sv_app.specs.declared.schemas.Ty.TheVariants as types
 use Rattle.sv_app.specs.declared.txns.Rel.{Rel}
 use Rattle.sv_app.specs.declared.txns.Rel.TheVariants as rels
-use Rattle.sv_app.specs.Trees.{Term, Test, Command, Block, Transaction, block_from}
+use Rattle.sv_app.specs.Trees.{Term, Test, Command, Transaction, block_from}
 use Rattle.sv_app.specs.Trees as trees
 use Rattle.sv_app.specs.Words.{is_reserved}
-use Rattle.sv_schema_reader.specs.Reading.{Read, ◌>>=◌, refuse, given, is_next, is_kind, next, kind_at, name_at, is_name, token_at, turns_at, by_word}
+use Rattle.sv_reader.specs.Reading.{Read, ◌>>=◌, refuse, given, is_next, is_kind, next, kind_at, name_at, is_name, token_at, turns_at, by_word, keep}
 use Rattle.sv_txn_reader.specs.declared.counts.Counts.{Counts}
 use Rattle.sv_txn_reader.specs.declared.heads.Head.{Head}
 use Rattle.sv_txn_reader.specs.declared.heads.Head.TheVariants as heads
@@ -32,10 +32,6 @@ Judged = Test × ℕ
 -- where there is no room
 abbrev pub never : {A : Type 0} → List Token → Read A
 never tokens = refuse Syntax tokens
-
--- the end of turns
-abbrev pub keep : {S : Type 0} → S → List Token → Read S
-keep s tokens = Ok (s, tokens)
 
 -- a number or a text
 abbrev pub literal : Spot → TokenKind → Option Graded
@@ -433,8 +429,3 @@ txn_step txns tokens =
 
 unfoldable pub txns_at : List Token → Read (List Transaction)
 txns_at tokens = turns_at begins_txn txn_step keep [] tokens
-
--- what was read, and how many tokens are left
-abbrev pub IsLeft : {A : Type 0} → Read A → A → ℕ → Type 0
-IsLeft (Ok read) a left = (read.0 ≡ a) × (length read.1 ≡ left)
-IsLeft (Err fault) a left = ⊥

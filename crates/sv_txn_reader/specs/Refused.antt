@@ -10,7 +10,7 @@ use Rattle.sv_app.specs.declared.refusals.Stop.{Stop}
 use Rattle.sv_app.specs.declared.refusals.Stop.TheVariants.{Refused, NoMemory}
 use Rattle.sv_app.specs.declared.txns.Txn.{Txn}
 use Rattle.sv_app.specs.Trees.{Transaction, transactions_of}
-use Rattle.sv_schema_reader.specs.Refused.{spot_of}
+use Rattle.sv_reader.specs.Places.{spot_of}
 use Rattle.sv_txn_reader.specs.Grammar.{transactions}
 
 -- transactions may begin with these tokens, whatever limits they pass

@@ -1,11 +1,11 @@
 ghost use Rattle.std.specs.Prelude.{◌≡◌};
-ghost use Rattle.sv_schema_reader.specs.Reading.{by_word};
+ghost use Rattle.sv_reader.specs.Reading.{by_word};
 ghost use Rattle.sv_txn_reader.specs.Reading.{head_named, head_at, is_loop, may_begin};
 
 use crate::heads::Head;
 use sv_app::is_reserved;
 use sv_lex::{Token, TokenKind};
-use sv_schema_reader::Reader;
+use sv_reader::Reader;
 
 fn head_named(word: &[u8]) -> Option<Head>
     ensures { result ≡ head_named word.now }

@@ -1,6 +1,6 @@
 ghost use Rattle.std.specs.Prelude.{◌≡◌, ◌≤◌, ◌<◌, ◌-◌, map, true, false, Some, None};
 ghost use Rattle.sv_app.specs.Trees.{command_of};
-ghost use Rattle.sv_schema_reader.specs.Reading.{Reads};
+ghost use Rattle.sv_reader.specs.Reading.{Reads};
 ghost use Rattle.sv_txn_reader.specs.Reading.{head_at, may_begin, with_head, if_at, else_at, for_at, each_at, loop_at, statement_step, goes_on, inside_at, block_at};
 ghost use Rattle.sv_txn_reader.specs.Standing.{counts, plus};
 
@@ -14,7 +14,7 @@ use crate::statements::{
 use std::alloc::Global;
 use sv_app::{Stmt, each, if_else, rows};
 use sv_lex::Mark;
-use sv_schema_reader::{Halt, Reader};
+use sv_reader::{ReadStop, Reader};
 
 /// The most statements of a transaction, with those that stand in others.
 const MOST_STATEMENTS: usize = 128;
@@ -41,7 +41,7 @@ fn else_block(
     counts: &mut Counts,
     looped: bool,
     room: usize,
-) -> Result<Vec<Stmt>, Halt>
+) -> Result<Vec<Stmt>, ReadStop>
     requires { room < 8 }
     ensures { Reads (λ stmts. (map command_of stmts.items, counts.new)) result reader.new.rest.now (else_at (block_at room) looped counts.old reader.old.rest.now) }
 {
@@ -61,7 +61,7 @@ fn if_statement(
     counts: &mut Counts,
     looped: bool,
     room: usize,
-) -> Result<Stmt, Halt>
+) -> Result<Stmt, ReadStop>
     requires { room < 8 }
     ensures { Reads (λ stmt. (command_of stmt, counts.new)) result reader.new.rest.now (if_at (block_at room) looped counts.old reader.old.rest.now) }
 {
@@ -80,7 +80,7 @@ fn for_rows(
     reader: &mut Reader<'_>,
     counts: &mut Counts,
     room: usize,
-) -> Result<Stmt, Halt>
+) -> Result<Stmt, ReadStop>
     requires { room < 8 }
     ensures { Reads (λ stmt. (command_of stmt, counts.new)) result reader.new.rest.now (for_at (block_at room) counts.old reader.old.rest.now) }
 {
@@ -101,7 +101,7 @@ fn for_each(
     reader: &mut Reader<'_>,
     counts: &mut Counts,
     room: usize,
-) -> Result<Stmt, Halt>
+) -> Result<Stmt, ReadStop>
     requires { room < 8 }
     ensures { Reads (λ stmt. (command_of stmt, counts.new)) result reader.new.rest.now (each_at (block_at room) counts.old reader.old.rest.now) }
 {
@@ -121,12 +121,12 @@ fn counted_for(
     reader: &mut Reader<'_>,
     counts: &mut Counts,
     room: usize,
-) -> Result<Stmt, Halt>
+) -> Result<Stmt, ReadStop>
     requires { room < 8 }
     ensures { Reads (λ stmt. (command_of stmt, counts.new)) result reader.new.rest.now (loop_at (for_at (block_at room)) counts.old reader.old.rest.now) }
 {
     if counts.loops >= MOST_LOOPS {
-        return Err(Halt::Faulty(reader.too_many()));
+        return Err(ReadStop::Faulty(reader.too_many()));
     }
     counts.loops += 1;
     for_rows(alloc, reader, counts, room)
@@ -140,12 +140,12 @@ fn counted_each(
     reader: &mut Reader<'_>,
     counts: &mut Counts,
     room: usize,
-) -> Result<Stmt, Halt>
+) -> Result<Stmt, ReadStop>
     requires { room < 8 }
     ensures { Reads (λ stmt. (command_of stmt, counts.new)) result reader.new.rest.now (loop_at (each_at (block_at room)) counts.old reader.old.rest.now) }
 {
     if counts.loops >= MOST_LOOPS {
-        return Err(Halt::Faulty(reader.too_many()));
+        return Err(ReadStop::Faulty(reader.too_many()));
     }
     counts.loops += 1;
     for_each(alloc, reader, counts, room)
@@ -160,7 +160,7 @@ fn statement(
     looped: bool,
     room: usize,
     head: Option<Head>,
-) -> Result<Stmt, Halt>
+) -> Result<Stmt, ReadStop>
     requires { room < 8 }
     ensures { Reads (λ stmt. (command_of stmt, counts.new)) result reader.new.rest.now (with_head (block_at room) looped counts.old head reader.old.rest.now) }
 {
@@ -176,7 +176,7 @@ fn statement(
         Some(Head::Remove) => remove(alloc, reader),
         Some(Head::Abort) => abort(reader),
         Some(Head::Reply) => reply(alloc, reader),
-        None => Err(Halt::Faulty(reader.misplaced())),
+        None => Err(ReadStop::Faulty(reader.misplaced())),
     }
 }
 
@@ -190,16 +190,16 @@ fn add_statement(
     looped: bool,
     room: usize,
     stmts: &mut Vec<Stmt>,
-) -> Result<(), Halt>
+) -> Result<(), ReadStop>
     requires { room < 8 }
     ensures { Reads (λ _. (map command_of stmts.new.items, counts.new)) result reader.new.rest.now (statement_step (block_at room) looped (map command_of stmts.old.items, counts.old) reader.old.rest.now) }
 {
     let head = head(reader);
     if !may_begin(looped, head) {
-        return Err(Halt::Faulty(reader.misplaced()));
+        return Err(ReadStop::Faulty(reader.misplaced()));
     }
     if counts.statements >= MOST_STATEMENTS {
-        return Err(Halt::Faulty(reader.too_many()));
+        return Err(ReadStop::Faulty(reader.too_many()));
     }
     counts.statements += 1;
     let stmt = statement(alloc, reader, counts, looped, room, head)?;
@@ -216,7 +216,7 @@ fn inside(
     counts: &mut Counts,
     looped: bool,
     room: usize,
-) -> Result<Vec<Stmt>, Halt>
+) -> Result<Vec<Stmt>, ReadStop>
     requires { room < 8 }
     ensures { Reads (λ stmts. (map command_of stmts.items, counts.new)) result reader.new.rest.now (inside_at (block_at room) looped counts.old reader.old.rest.now) }
 {
@@ -237,15 +237,15 @@ pub fn block(
     counts: &mut Counts,
     looped: bool,
     room: usize,
-) -> Result<Vec<Stmt>, Halt>
+) -> Result<Vec<Stmt>, ReadStop>
     requires { room ≤ 8 }
     ensures { Reads (λ stmts. (map command_of stmts.items, counts.new)) result reader.new.rest.now (block_at room looped counts.old reader.old.rest.now) }
 {
     if room == 0 {
         if reader.is_mark(Mark::LeftBrace) {
-            return Err(Halt::Faulty(reader.too_many()));
+            return Err(ReadStop::Faulty(reader.too_many()));
         }
-        return Err(Halt::Faulty(reader.misplaced()));
+        return Err(ReadStop::Faulty(reader.misplaced()));
     }
     reader.mark(Mark::LeftBrace)?;
     inside(alloc, reader, counts, looped, room - 1)

@@ -1,14 +1,14 @@
 ghost use Rattle.std.specs.Prelude.{◌≡◌, ◌≤◌, ◌<◌, IfOk};
 ghost use Rattle.sv_app.specs.Trees.{test_of, Negation, Both, Either};
-ghost use Rattle.sv_schema_reader.specs.Reading.{Reads, token_at, is_next, turns_at};
-ghost use Rattle.sv_txn_reader.specs.Reading.{keep, relation_named, relation_of, comparison_at, negation_at, bracket_at, literal_with, literal_at, sums_at, literal_below, and_turn, conjunctions_with, conjunctions_at, conjunctions_below, or_turn, disjunctions_with, disjunctions_at, disjunctions_below, cond_at};
+ghost use Rattle.sv_reader.specs.Reading.{Reads, token_at, is_next, turns_at, keep};
+ghost use Rattle.sv_txn_reader.specs.Reading.{relation_named, relation_of, comparison_at, negation_at, bracket_at, literal_with, literal_at, sums_at, literal_below, and_turn, conjunctions_with, conjunctions_at, conjunctions_below, or_turn, disjunctions_with, disjunctions_at, disjunctions_below, cond_at};
 
 use crate::graded::Judged;
 use crate::terms::sums;
 use std::alloc::{AllocError, Global};
 use sv_app::{Cond, Rel};
 use sv_lex::{Mark, Token, TokenKind};
-use sv_schema_reader::{Halt, Reader};
+use sv_reader::{ReadStop, Reader};
 
 /// How much deeper a condition may be than a comparison of names: at most 16 deep.
 const MOST_EXTRA: usize = 14;
@@ -37,7 +37,7 @@ fn relation_of(token: &Token) -> Option<Rel>
 }
 
 /// Reads how two values compare.
-fn relation(reader: &mut Reader<'_>) -> Result<Rel, Halt>
+fn relation(reader: &mut Reader<'_>) -> Result<Rel, ReadStop>
     ensures { Reads (λ by. by) result reader.new.rest.now (token_at relation_of reader.old.rest.now) }
 {
     if let [token, rest @ ..] = reader.rest {
@@ -46,7 +46,7 @@ fn relation(reader: &mut Reader<'_>) -> Result<Rel, Halt>
             return Ok(by);
         }
     }
-    Err(Halt::Faulty(reader.misplaced()))
+    Err(ReadStop::Faulty(reader.misplaced()))
 }
 
 fn negation(alloc: Global, inner: Cond) -> Result<Cond, AllocError>
@@ -74,7 +74,7 @@ fn either(alloc: Global, left: Cond, right: Cond) -> Result<Cond, AllocError>
 
 /// Reads a comparison whose sides have so much room.
 #[tactic(auto, unfolding(crate::specs::Reading::comparison_at))]
-fn comparison(alloc: Global, reader: &mut Reader<'_>, room: usize) -> Result<Judged, Halt>
+fn comparison(alloc: Global, reader: &mut Reader<'_>, room: usize) -> Result<Judged, ReadStop>
     requires small { room ≤ 16 }
     ensures read { Reads (λ c. (test_of c.cond, c.extra)) result reader.new.rest.now (comparison_at (sums_at room) reader.old.rest.now) }
     ensures fits { IfOk result (λ c. c.extra ≤ room) }
@@ -96,7 +96,7 @@ fn comparison(alloc: Global, reader: &mut Reader<'_>, room: usize) -> Result<Jud
 /// Reads a negation, where there is so much room.
 #[cycle(conditions)]
 #[tactic(auto, unfolding(crate::specs::Reading::negation_at), using(crate::proofs::TestRoomLaws::literal_below_is))]
-fn negated(alloc: Global, reader: &mut Reader<'_>, room: usize) -> Result<Judged, Halt>
+fn negated(alloc: Global, reader: &mut Reader<'_>, room: usize) -> Result<Judged, ReadStop>
     requires some { 1 ≤ room }
     requires small { room ≤ 16 }
     ensures read { Reads (λ c. (test_of c.cond, c.extra)) result reader.new.rest.now (negation_at (literal_below room) reader.old.rest.now) }
@@ -114,7 +114,7 @@ fn negated(alloc: Global, reader: &mut Reader<'_>, room: usize) -> Result<Judged
 /// Reads a condition between brackets, where there is so much room.
 #[cycle(conditions)]
 #[tactic(auto, unfolding(crate::specs::Reading::bracket_at), using(crate::proofs::TestRoomLaws::disjunctions_below_is))]
-fn bracketed(alloc: Global, reader: &mut Reader<'_>, room: usize) -> Result<Judged, Halt>
+fn bracketed(alloc: Global, reader: &mut Reader<'_>, room: usize) -> Result<Judged, ReadStop>
     requires some { 1 ≤ room }
     requires small { room ≤ 16 }
     ensures read { Reads (λ c. (test_of c.cond, c.extra)) result reader.new.rest.now (bracket_at (disjunctions_below room) reader.old.rest.now) }
@@ -132,20 +132,20 @@ fn bracketed(alloc: Global, reader: &mut Reader<'_>, room: usize) -> Result<Judg
 /// Reads a literal where there is so much room.
 #[cycle(conditions)]
 #[tactic(auto, unfolding(crate::specs::Reading::literal_with), using(crate::proofs::TestRoomLaws::literal_read))]
-fn literal(alloc: Global, reader: &mut Reader<'_>, room: usize) -> Result<Judged, Halt>
+fn literal(alloc: Global, reader: &mut Reader<'_>, room: usize) -> Result<Judged, ReadStop>
     requires small { room ≤ 16 }
     ensures read { Reads (λ c. (test_of c.cond, c.extra)) result reader.new.rest.now (literal_at room reader.old.rest.now) }
     ensures fits { IfOk result (λ c. c.extra ≤ room) }
 {
     if reader.is_word(b"not") {
         if room == 0 {
-            return Err(Halt::Faulty(reader.too_many()));
+            return Err(ReadStop::Faulty(reader.too_many()));
         }
         return negated(alloc, reader, room);
     }
     if reader.is_mark(Mark::LeftBracket) {
         if room == 0 {
-            return Err(Halt::Faulty(reader.too_many()));
+            return Err(ReadStop::Faulty(reader.too_many()));
         }
         return bracketed(alloc, reader, room);
     }
@@ -160,13 +160,13 @@ fn conjoined(
     reader: &mut Reader<'_>,
     left: Judged,
     room: usize,
-) -> Result<Judged, Halt>
+) -> Result<Judged, ReadStop>
     requires small { room ≤ 16 }
     ensures read { Reads (λ c. (test_of c.cond, c.extra)) result reader.new.rest.now (and_turn room (literal_below room) (test_of left.cond, left.extra) reader.old.rest.now) }
     ensures fits { IfOk result (λ c. c.extra ≤ room) }
 {
     if room <= left.extra {
-        return Err(Halt::Faulty(reader.too_many()));
+        return Err(ReadStop::Faulty(reader.too_many()));
     }
     reader.word(b"and")?;
     let right = literal(alloc, reader, room - 1)?;
@@ -178,7 +178,7 @@ fn conjoined(
 /// Reads a conjunction where there is so much room.
 #[cycle(conditions)]
 #[tactic(auto, unfolding(crate::specs::Reading::conjunctions_with), using(crate::proofs::TestRoomLaws::ands))]
-fn conjunctions(alloc: Global, reader: &mut Reader<'_>, room: usize) -> Result<Judged, Halt>
+fn conjunctions(alloc: Global, reader: &mut Reader<'_>, room: usize) -> Result<Judged, ReadStop>
     requires small { room ≤ 16 }
     ensures read { Reads (λ c. (test_of c.cond, c.extra)) result reader.new.rest.now (conjunctions_at room reader.old.rest.now) }
     ensures fits { IfOk result (λ c. c.extra ≤ room) }
@@ -198,13 +198,13 @@ fn disjoined(
     reader: &mut Reader<'_>,
     left: Judged,
     room: usize,
-) -> Result<Judged, Halt>
+) -> Result<Judged, ReadStop>
     requires small { room ≤ 16 }
     ensures read { Reads (λ c. (test_of c.cond, c.extra)) result reader.new.rest.now (or_turn room (conjunctions_below room) (test_of left.cond, left.extra) reader.old.rest.now) }
     ensures fits { IfOk result (λ c. c.extra ≤ room) }
 {
     if room <= left.extra {
-        return Err(Halt::Faulty(reader.too_many()));
+        return Err(ReadStop::Faulty(reader.too_many()));
     }
     reader.word(b"or")?;
     let right = conjunctions(alloc, reader, room - 1)?;
@@ -216,7 +216,7 @@ fn disjoined(
 /// Reads a condition where there is so much room.
 #[cycle(conditions)]
 #[tactic(auto, unfolding(crate::specs::Reading::disjunctions_with), using(crate::proofs::TestRoomLaws::ors))]
-fn disjunctions(alloc: Global, reader: &mut Reader<'_>, room: usize) -> Result<Judged, Halt>
+fn disjunctions(alloc: Global, reader: &mut Reader<'_>, room: usize) -> Result<Judged, ReadStop>
     requires small { room ≤ 16 }
     ensures read { Reads (λ c. (test_of c.cond, c.extra)) result reader.new.rest.now (disjunctions_at room reader.old.rest.now) }
     ensures fits { IfOk result (λ c. c.extra ≤ room) }
@@ -230,7 +230,7 @@ fn disjunctions(alloc: Global, reader: &mut Reader<'_>, room: usize) -> Result<J
 
 /// Reads a condition.
 #[tactic(auto, unfolding(crate::specs::Reading::cond_at))]
-pub fn cond(alloc: Global, reader: &mut Reader<'_>) -> Result<Cond, Halt>
+pub fn cond(alloc: Global, reader: &mut Reader<'_>) -> Result<Cond, ReadStop>
     ensures { Reads test_of result reader.new.rest.now (cond_at reader.old.rest.now) }
 {
     let whole = disjunctions(alloc, reader, MOST_EXTRA)?;

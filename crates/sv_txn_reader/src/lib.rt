@@ -8,6 +8,7 @@ mod conditions;
 mod counts;
 mod graded;
 mod heads;
+mod laws;
 mod reading;
 mod statements;
 mod terms;
@@ -15,4 +16,5 @@ mod txns;
 mod values;
 
 pub use counts::Counts;
+pub use laws::refused_once;
 pub use reading::read_txns;

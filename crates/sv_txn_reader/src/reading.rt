@@ -4,31 +4,21 @@ ghost use Rattle.sv_app.specs.declared.refusals.Stop.TheVariants.{Refused};
 ghost use Rattle.sv_app.specs.Trees.{Transaction, transactions_of};
 ghost use Rattle.sv_app.specs.TxnConditions.{KeepsTxnGrammar, KeepsTxnLimits};
 ghost use Rattle.sv_lex.specs.declared.tokens.Token.{Token as IsToken};
-ghost use Rattle.sv_schema_reader.specs.declared.faults.Fault.{Fault as IsFault};
-ghost use Rattle.sv_schema_reader.specs.declared.faults.Halt.TheVariants.{Faulty};
-ghost use Rattle.sv_schema_reader.specs.Refused.{spot_of};
-ghost use Rattle.sv_txn_reader.specs.Reading.{IsLeft, txns_at};
+ghost use Rattle.sv_reader.specs.declared.faults.ReadFault.{ReadFault as IsFault};
+ghost use Rattle.sv_reader.specs.declared.faults.ReadStop.TheVariants.{Faulty};
+ghost use Rattle.sv_reader.specs.Reading.{IsLeft};
+ghost use Rattle.sv_txn_reader.specs.Reading.{txns_at};
 ghost use Rattle.sv_txn_reader.specs.Refused.{AreRead, IsRefused, IsAnswer};
 
 use crate::txns::txns;
 use std::alloc::Global;
-use sv_app::{Refusal, Stop, Txn};
+use sv_app::{Stop, Txn};
 use sv_lex::Token;
-use sv_schema_reader::{Halt, Reader};
+use sv_reader::{ReadStop, Reader, refusal_of};
 use sv_value::Spot;
 
-/// Where the first of the last `left` tokens stands; the end of the document, if there is none.
-fn spot_of(tokens: &[Token], end: Spot, left: usize) -> Spot
-    ensures { result ≡ spot_of end (drop (length tokens.now - left) tokens.now) }
-{
-    match tokens.get(tokens.len().saturating_sub(left)) {
-        Some(token) => token.spot,
-        None => end,
-    }
-}
-
 /// The transactions that stand at the front of the tokens, and how many tokens are left behind them.
-fn read_front(alloc: Global, tokens: &[Token]) -> Result<(Vec<Txn>, usize), Halt>
+fn read_front(alloc: Global, tokens: &[Token]) -> Result<(Vec<Txn>, usize), ReadStop>
     ensures read { IfOk result (λ read. IsLeft (txns_at tokens.now) (transactions_of read.0.items) read.1) }
     ensures fault { (fault : IsFault) → result ≡ Err (Faulty fault) → txns_at tokens.now ≡ Err fault }
 {
@@ -65,10 +55,9 @@ pub fn read_txns(
 {
     match read_front(alloc, &tokens[at..]) {
         Ok((txns, left)) => Ok((txns, tokens.len() - left)),
-        Err(Halt::Faulty(fault)) => Err(Stop::Refused(Refusal {
-            spot: spot_of(&tokens[at..], end, fault.left),
-            code: fault.code,
-        })),
-        Err(Halt::NoMemory) => Err(Stop::NoMemory),
+        Err(ReadStop::Faulty(fault)) => {
+            Err(Stop::Refused(refusal_of(&tokens[at..], end, fault)))
+        }
+        Err(ReadStop::NoMemory) => Err(Stop::NoMemory),
     }
 }

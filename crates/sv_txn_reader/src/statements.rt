@@ -1,6 +1,6 @@
 ghost use Rattle.std.specs.Prelude.{◌≡◌, [], false};
 ghost use Rattle.sv_app.specs.Trees.{command_of, test_of, block_of};
-ghost use Rattle.sv_schema_reader.specs.Reading.{Reads, token_at};
+ghost use Rattle.sv_reader.specs.Reading.{Reads, token_at};
 ghost use Rattle.sv_txn_reader.specs.Reading.{natural_of, is_large, let_at, assign_at, get_at, insert_at, update_at, remove_at, abort_at, reply_at, where_at};
 ghost use Rattle.std.specs.Option.{option_map};
 
@@ -11,7 +11,7 @@ use crate::values::{index, sets, setting, values};
 use std::alloc::Global;
 use sv_app::{Cond, Stmt};
 use sv_lex::{Mark, Token, TokenKind};
-use sv_schema_reader::{Halt, Reader};
+use sv_reader::{ReadStop, Reader};
 
 /// The most variables of a transaction.
 const MOST_VARIABLES: usize = 32;
@@ -25,15 +25,15 @@ pub fn let_statement(
     alloc: Global,
     reader: &mut Reader<'_>,
     counts: &mut Counts,
-) -> Result<Stmt, Halt>
+) -> Result<Stmt, ReadStop>
     ensures { Reads (λ stmt. (command_of stmt, counts.new)) result reader.new.rest.now (let_at counts.old reader.old.rest.now) }
 {
     reader.word(b"let")?;
     if !reader.is_name() {
-        return Err(Halt::Faulty(reader.misplaced()));
+        return Err(ReadStop::Faulty(reader.misplaced()));
     }
     if counts.variables >= MOST_VARIABLES {
-        return Err(Halt::Faulty(reader.too_many()));
+        return Err(ReadStop::Faulty(reader.too_many()));
     }
     let (var, value) = setting(alloc, reader)?;
     reader.mark(Mark::Semi)?;
@@ -43,7 +43,7 @@ pub fn let_statement(
 
 /// Reads an assignment.
 #[tactic(auto, unfolding(crate::specs::Reading::assign_at))]
-pub fn assign(alloc: Global, reader: &mut Reader<'_>) -> Result<Stmt, Halt>
+pub fn assign(alloc: Global, reader: &mut Reader<'_>) -> Result<Stmt, ReadStop>
     ensures { Reads command_of result reader.new.rest.now (assign_at reader.old.rest.now) }
 {
     let (var, value) = setting(alloc, reader)?;
@@ -53,7 +53,7 @@ pub fn assign(alloc: Global, reader: &mut Reader<'_>) -> Result<Stmt, Halt>
 
 /// Reads what takes a row of a table.
 #[tactic(auto, unfolding(crate::specs::Reading::get_at))]
-pub fn get(alloc: Global, reader: &mut Reader<'_>) -> Result<Stmt, Halt>
+pub fn get(alloc: Global, reader: &mut Reader<'_>) -> Result<Stmt, ReadStop>
     ensures { Reads command_of result reader.new.rest.now (get_at reader.old.rest.now) }
 {
     reader.word(b"get")?;
@@ -67,7 +67,7 @@ pub fn get(alloc: Global, reader: &mut Reader<'_>) -> Result<Stmt, Halt>
 
 /// Reads an insert.
 #[tactic(auto, unfolding(crate::specs::Reading::insert_at))]
-pub fn insert(alloc: Global, reader: &mut Reader<'_>) -> Result<Stmt, Halt>
+pub fn insert(alloc: Global, reader: &mut Reader<'_>) -> Result<Stmt, ReadStop>
     ensures { Reads command_of result reader.new.rest.now (insert_at reader.old.rest.now) }
 {
     reader.word(b"insert")?;
@@ -81,7 +81,7 @@ pub fn insert(alloc: Global, reader: &mut Reader<'_>) -> Result<Stmt, Halt>
 
 /// Reads an update.
 #[tactic(auto, unfolding(crate::specs::Reading::update_at))]
-pub fn update(alloc: Global, reader: &mut Reader<'_>) -> Result<Stmt, Halt>
+pub fn update(alloc: Global, reader: &mut Reader<'_>) -> Result<Stmt, ReadStop>
     ensures { Reads command_of result reader.new.rest.now (update_at reader.old.rest.now) }
 {
     reader.word(b"update")?;
@@ -95,7 +95,7 @@ pub fn update(alloc: Global, reader: &mut Reader<'_>) -> Result<Stmt, Halt>
 
 /// Reads a remove.
 #[tactic(auto, unfolding(crate::specs::Reading::remove_at))]
-pub fn remove(alloc: Global, reader: &mut Reader<'_>) -> Result<Stmt, Halt>
+pub fn remove(alloc: Global, reader: &mut Reader<'_>) -> Result<Stmt, ReadStop>
     ensures { Reads command_of result reader.new.rest.now (remove_at reader.old.rest.now) }
 {
     reader.word(b"remove")?;
@@ -119,7 +119,7 @@ fn is_large(reader: &Reader<'_>) -> bool
 }
 
 /// Reads the number of an abort.
-fn code(reader: &mut Reader<'_>) -> Result<u16, Halt>
+fn code(reader: &mut Reader<'_>) -> Result<u16, ReadStop>
     requires { is_large reader.old.rest.now ≡ false }
     ensures { Reads (λ n. n) result reader.new.rest.now (token_at natural_of reader.old.rest.now) }
 {
@@ -132,17 +132,17 @@ fn code(reader: &mut Reader<'_>) -> Result<u16, Halt>
             }
         }
     }
-    Err(Halt::Faulty(reader.misplaced()))
+    Err(ReadStop::Faulty(reader.misplaced()))
 }
 
 /// Reads an abort.
 #[tactic(auto, unfolding(crate::specs::Reading::abort_at))]
-pub fn abort(reader: &mut Reader<'_>) -> Result<Stmt, Halt>
+pub fn abort(reader: &mut Reader<'_>) -> Result<Stmt, ReadStop>
     ensures { Reads command_of result reader.new.rest.now (abort_at reader.old.rest.now) }
 {
     reader.word(b"abort")?;
     if is_large(reader) {
-        return Err(Halt::Faulty(reader.too_many()));
+        return Err(ReadStop::Faulty(reader.too_many()));
     }
     let code = code(reader)?;
     reader.mark(Mark::Semi)?;
@@ -151,7 +151,7 @@ pub fn abort(reader: &mut Reader<'_>) -> Result<Stmt, Halt>
 
 /// Reads a reply.
 #[tactic(auto, unfolding(crate::specs::Reading::reply_at))]
-pub fn reply(alloc: Global, reader: &mut Reader<'_>) -> Result<Stmt, Halt>
+pub fn reply(alloc: Global, reader: &mut Reader<'_>) -> Result<Stmt, ReadStop>
     ensures { Reads command_of result reader.new.rest.now (reply_at reader.old.rest.now) }
 {
     reader.word(b"reply")?;
@@ -162,7 +162,7 @@ pub fn reply(alloc: Global, reader: &mut Reader<'_>) -> Result<Stmt, Halt>
 
 /// Reads the condition of a loop over rows, if one is written.
 #[tactic(auto, unfolding(crate::specs::Reading::where_at))]
-pub fn where_part(alloc: Global, reader: &mut Reader<'_>) -> Result<Option<Cond>, Halt>
+pub fn where_part(alloc: Global, reader: &mut Reader<'_>) -> Result<Option<Cond>, ReadStop>
     ensures { Reads (λ c. option_map test_of c) result reader.new.rest.now (where_at reader.old.rest.now) }
 {
     if reader.is_word(b"where") {

@@ -1,15 +1,15 @@
 ghost use Rattle.std.specs.Prelude.{◌≡◌, ◌≤◌, ◌-◌, ◌<◌, suc, IfOk};
 ghost use Rattle.std.specs.Option.{option_map};
 ghost use Rattle.sv_app.specs.Trees.{term_of, Minus, Sum, Difference, Product};
-ghost use Rattle.sv_schema_reader.specs.Reading.{Reads, token_at, is_next, turns_at};
+ghost use Rattle.sv_reader.specs.Reading.{Reads, token_at, is_next, turns_at, keep};
 ghost use Rattle.sv_txn_reader.specs.Grammar.{placed, spot_of};
-ghost use Rattle.sv_txn_reader.specs.Reading.{keep, literal_of, field_at, old_at, leaf_at, sign_at, group_at, factor_with, factor_at, product_turn, products_with, products_at, is_sign, joined_at, factor_below, products_below, sums_below, sum_turn, sums_with, sums_at, expr_at};
+ghost use Rattle.sv_txn_reader.specs.Reading.{literal_of, field_at, old_at, leaf_at, sign_at, group_at, factor_with, factor_at, product_turn, products_with, products_at, is_sign, joined_at, factor_below, products_below, sums_below, sum_turn, sums_with, sums_at, expr_at};
 
 use crate::graded::Graded;
 use std::alloc::{AllocError, Global};
 use sv_app::{Expr, Ident};
 use sv_lex::{Mark, Token, TokenKind};
-use sv_schema_reader::{Halt, Reader};
+use sv_reader::{ReadStop, Reader};
 use sv_value::Spot;
 
 /// How much deeper an expression may be than a name: at most 16 deep.
@@ -59,7 +59,7 @@ fn literal_of(token: &Token) -> Option<Expr>
     }
 }
 
-fn literal(reader: &mut Reader<'_>) -> Result<Graded, Halt>
+fn literal(reader: &mut Reader<'_>) -> Result<Graded, ReadStop>
     ensures read { Reads (λ e. (term_of e.expr, e.extra)) result reader.new.rest.now (token_at literal_of reader.old.rest.now) }
     ensures flat { IfOk result (λ e. e.extra ≡ 0) }
 {
@@ -69,12 +69,12 @@ fn literal(reader: &mut Reader<'_>) -> Result<Graded, Halt>
             return Ok(Graded { expr, extra: 0 });
         }
     }
-    Err(Halt::Faulty(reader.misplaced()))
+    Err(ReadStop::Faulty(reader.misplaced()))
 }
 
 /// Reads what may stand behind a name in an expression.
 #[tactic(auto, unfolding(crate::specs::Reading::field_at))]
-fn field(reader: &mut Reader<'_>, name: Ident) -> Result<Graded, Halt>
+fn field(reader: &mut Reader<'_>, name: Ident) -> Result<Graded, ReadStop>
     ensures read { Reads (λ e. (term_of e.expr, e.extra)) result reader.new.rest.now (field_at name reader.old.rest.now) }
     ensures flat { IfOk result (λ e. e.extra ≡ 0) }
 {
@@ -97,7 +97,7 @@ fn field(reader: &mut Reader<'_>, name: Ident) -> Result<Graded, Halt>
 }
 
 #[tactic(auto, unfolding(crate::specs::Reading::old_at))]
-fn old(reader: &mut Reader<'_>) -> Result<Graded, Halt>
+fn old(reader: &mut Reader<'_>) -> Result<Graded, ReadStop>
     ensures read { Reads (λ e. (term_of e.expr, e.extra)) result reader.new.rest.now (old_at reader.old.rest.now) }
     ensures flat { IfOk result (λ e. e.extra ≡ 0) }
 {
@@ -111,7 +111,7 @@ fn old(reader: &mut Reader<'_>) -> Result<Graded, Halt>
 }
 
 #[tactic(auto, unfolding(crate::specs::Reading::leaf_at))]
-fn leaf(reader: &mut Reader<'_>) -> Result<Graded, Halt>
+fn leaf(reader: &mut Reader<'_>) -> Result<Graded, ReadStop>
     ensures read { Reads (λ e. (term_of e.expr, e.extra)) result reader.new.rest.now (leaf_at reader.old.rest.now) }
     ensures flat { IfOk result (λ e. e.extra ≡ 0) }
 {
@@ -170,7 +170,7 @@ fn is_sign(reader: &Reader<'_>) -> bool
 /// Reads a factor with a sign before it, where there is so much room.
 #[cycle(terms)]
 #[tactic(auto, unfolding(crate::specs::Reading::sign_at), using(crate::proofs::RoomLaws::factor_below_is))]
-fn signed(alloc: Global, reader: &mut Reader<'_>, room: usize) -> Result<Graded, Halt>
+fn signed(alloc: Global, reader: &mut Reader<'_>, room: usize) -> Result<Graded, ReadStop>
     requires some { 1 ≤ room }
     requires small { room ≤ 16 }
     ensures read { Reads (λ e. (term_of e.expr, e.extra)) result reader.new.rest.now (sign_at (factor_below room) reader.old.rest.now) }
@@ -188,7 +188,7 @@ fn signed(alloc: Global, reader: &mut Reader<'_>, room: usize) -> Result<Graded,
 /// Reads an expression between parentheses, where there is so much room.
 #[cycle(terms)]
 #[tactic(auto, unfolding(crate::specs::Reading::group_at), using(crate::proofs::RoomLaws::sums_below_is))]
-fn group(alloc: Global, reader: &mut Reader<'_>, room: usize) -> Result<Graded, Halt>
+fn group(alloc: Global, reader: &mut Reader<'_>, room: usize) -> Result<Graded, ReadStop>
     requires some { 1 ≤ room }
     requires small { room ≤ 16 }
     ensures read { Reads (λ e. (term_of e.expr, e.extra)) result reader.new.rest.now (group_at (sums_below room) reader.old.rest.now) }
@@ -206,20 +206,20 @@ fn group(alloc: Global, reader: &mut Reader<'_>, room: usize) -> Result<Graded, 
 /// Reads a factor where there is so much room.
 #[cycle(terms)]
 #[tactic(auto, unfolding(crate::specs::Reading::factor_with), using(crate::proofs::RoomLaws::factor_read))]
-fn factor(alloc: Global, reader: &mut Reader<'_>, room: usize) -> Result<Graded, Halt>
+fn factor(alloc: Global, reader: &mut Reader<'_>, room: usize) -> Result<Graded, ReadStop>
     requires small { room ≤ 16 }
     ensures read { Reads (λ e. (term_of e.expr, e.extra)) result reader.new.rest.now (factor_at room reader.old.rest.now) }
     ensures fits { IfOk result (λ e. e.extra ≤ room) }
 {
     if reader.is_mark(Mark::Minus) {
         if room == 0 {
-            return Err(Halt::Faulty(reader.too_many()));
+            return Err(ReadStop::Faulty(reader.too_many()));
         }
         return signed(alloc, reader, room);
     }
     if reader.is_mark(Mark::LeftParen) {
         if room == 0 {
-            return Err(Halt::Faulty(reader.too_many()));
+            return Err(ReadStop::Faulty(reader.too_many()));
         }
         return group(alloc, reader, room);
     }
@@ -234,13 +234,13 @@ fn multiplied(
     reader: &mut Reader<'_>,
     left: Graded,
     room: usize,
-) -> Result<Graded, Halt>
+) -> Result<Graded, ReadStop>
     requires small { room ≤ 16 }
     ensures read { Reads (λ e. (term_of e.expr, e.extra)) result reader.new.rest.now (product_turn room (factor_below room) (term_of left.expr, left.extra) reader.old.rest.now) }
     ensures fits { IfOk result (λ e. e.extra ≤ room) }
 {
     if room <= left.extra {
-        return Err(Halt::Faulty(reader.too_many()));
+        return Err(ReadStop::Faulty(reader.too_many()));
     }
     reader.mark(Mark::Star)?;
     let right = factor(alloc, reader, room - 1)?;
@@ -252,7 +252,7 @@ fn multiplied(
 /// Reads a product where there is so much room.
 #[cycle(terms)]
 #[tactic(auto, unfolding(crate::specs::Reading::products_with), using(crate::proofs::RoomLaws::products))]
-fn products(alloc: Global, reader: &mut Reader<'_>, room: usize) -> Result<Graded, Halt>
+fn products(alloc: Global, reader: &mut Reader<'_>, room: usize) -> Result<Graded, ReadStop>
     requires small { room ≤ 16 }
     ensures read { Reads (λ e. (term_of e.expr, e.extra)) result reader.new.rest.now (products_at room reader.old.rest.now) }
     ensures fits { IfOk result (λ e. e.extra ≤ room) }
@@ -267,7 +267,12 @@ fn products(alloc: Global, reader: &mut Reader<'_>, room: usize) -> Result<Grade
 /// Reads a sign and what it joins to an expression.
 #[cycle(terms)]
 #[tactic(auto, unfolding(crate::specs::Reading::joined_at), using(crate::proofs::RoomLaws::products_below_is))]
-fn joined(alloc: Global, reader: &mut Reader<'_>, left: Graded, room: usize) -> Result<Graded, Halt>
+fn joined(
+    alloc: Global,
+    reader: &mut Reader<'_>,
+    left: Graded,
+    room: usize,
+) -> Result<Graded, ReadStop>
     requires some { left.extra < room }
     requires small { room ≤ 16 }
     ensures read { Reads (λ e. (term_of e.expr, e.extra)) result reader.new.rest.now (joined_at (products_below room) (term_of left.expr, left.extra) reader.old.rest.now) }
@@ -290,13 +295,18 @@ fn joined(alloc: Global, reader: &mut Reader<'_>, left: Graded, room: usize) -> 
 /// Reads one more product of a sum or a difference.
 #[cycle(terms)]
 #[tactic(auto, unfolding(crate::specs::Reading::sum_turn))]
-fn added(alloc: Global, reader: &mut Reader<'_>, left: Graded, room: usize) -> Result<Graded, Halt>
+fn added(
+    alloc: Global,
+    reader: &mut Reader<'_>,
+    left: Graded,
+    room: usize,
+) -> Result<Graded, ReadStop>
     requires small { room ≤ 16 }
     ensures read { Reads (λ e. (term_of e.expr, e.extra)) result reader.new.rest.now (sum_turn room (products_below room) (term_of left.expr, left.extra) reader.old.rest.now) }
     ensures fits { IfOk result (λ e. e.extra ≤ room) }
 {
     if room <= left.extra {
-        return Err(Halt::Faulty(reader.too_many()));
+        return Err(ReadStop::Faulty(reader.too_many()));
     }
     joined(alloc, reader, left, room)
 }
@@ -304,7 +314,7 @@ fn added(alloc: Global, reader: &mut Reader<'_>, left: Graded, room: usize) -> R
 /// Reads an expression where there is so much room.
 #[cycle(terms)]
 #[tactic(auto, unfolding(crate::specs::Reading::sums_with), using(crate::proofs::RoomLaws::sums))]
-pub fn sums(alloc: Global, reader: &mut Reader<'_>, room: usize) -> Result<Graded, Halt>
+pub fn sums(alloc: Global, reader: &mut Reader<'_>, room: usize) -> Result<Graded, ReadStop>
     requires small { room ≤ 16 }
     ensures read { Reads (λ e. (term_of e.expr, e.extra)) result reader.new.rest.now (sums_at room reader.old.rest.now) }
     ensures fits { IfOk result (λ e. e.extra ≤ room) }
@@ -318,7 +328,7 @@ pub fn sums(alloc: Global, reader: &mut Reader<'_>, room: usize) -> Result<Grade
 
 /// Reads an expression.
 #[tactic(auto, unfolding(crate::specs::Reading::expr_at))]
-pub fn expr(alloc: Global, reader: &mut Reader<'_>) -> Result<Expr, Halt>
+pub fn expr(alloc: Global, reader: &mut Reader<'_>) -> Result<Expr, ReadStop>
     ensures { Reads term_of result reader.new.rest.now (expr_at reader.old.rest.now) }
 {
     let whole = sums(alloc, reader, MOST_EXTRA)?;

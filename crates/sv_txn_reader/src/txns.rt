@@ -1,14 +1,14 @@
 ghost use Rattle.std.specs.Prelude.{◌≡◌, true};
 ghost use Rattle.sv_app.specs.Trees.{transaction_of, transactions_of};
-ghost use Rattle.sv_schema_reader.specs.Reading.{Reads, by_word, token_at, is_next, turns_at};
-ghost use Rattle.sv_txn_reader.specs.Reading.{keep, type_named, param_at, item_step, item_turn, list_of, params_at, block_at, txn_at, begins_txn, txn_step, txns_at};
+ghost use Rattle.sv_reader.specs.Reading.{Reads, by_word, token_at, is_next, turns_at, keep};
+ghost use Rattle.sv_txn_reader.specs.Reading.{type_named, param_at, item_step, item_turn, list_of, params_at, block_at, txn_at, begins_txn, txn_step, txns_at};
 
 use crate::blocks::block;
 use crate::counts::Counts;
 use std::alloc::Global;
 use sv_app::{Ident, Txn, Ty};
 use sv_lex::{Mark, Token, TokenKind};
-use sv_schema_reader::{Halt, Reader};
+use sv_reader::{ReadStop, Reader};
 
 /// The most transactions of a document.
 const MOST_TXNS: usize = 32;
@@ -42,7 +42,7 @@ fn type_of(token: &Token) -> Option<Ty>
     }
 }
 
-fn type_word(reader: &mut Reader<'_>) -> Result<Ty, Halt>
+fn type_word(reader: &mut Reader<'_>) -> Result<Ty, ReadStop>
     ensures { Reads (λ ty. ty) result reader.new.rest.now (token_at (λ token. by_word type_named token.kind) reader.old.rest.now) }
 {
     if let [token, rest @ ..] = reader.rest {
@@ -51,16 +51,16 @@ fn type_word(reader: &mut Reader<'_>) -> Result<Ty, Halt>
             return Ok(ty);
         }
     }
-    Err(Halt::Faulty(reader.misplaced()))
+    Err(ReadStop::Faulty(reader.misplaced()))
 }
 
 /// Reads one more parameter, if there is room for it.
 #[tactic(auto, unfolding(crate::specs::Reading::item_step, crate::specs::Reading::param_at))]
-fn add_param(reader: &mut Reader<'_>, params: &mut Vec<(Ident, Ty)>) -> Result<(), Halt>
+fn add_param(reader: &mut Reader<'_>, params: &mut Vec<(Ident, Ty)>) -> Result<(), ReadStop>
     ensures { Reads (λ _. params.new.items) result reader.new.rest.now (item_step param_at params.old.items reader.old.rest.now) }
 {
     if reader.is_name() && params.len() >= MOST_PARAMS {
-        return Err(Halt::Faulty(reader.too_many()));
+        return Err(ReadStop::Faulty(reader.too_many()));
     }
     let name = reader.name()?;
     reader.mark(Mark::Colon)?;
@@ -70,7 +70,7 @@ fn add_param(reader: &mut Reader<'_>, params: &mut Vec<(Ident, Ty)>) -> Result<(
 }
 
 #[tactic(auto, unfolding(crate::specs::Reading::item_turn))]
-fn more_params(reader: &mut Reader<'_>, params: &mut Vec<(Ident, Ty)>) -> Result<(), Halt>
+fn more_params(reader: &mut Reader<'_>, params: &mut Vec<(Ident, Ty)>) -> Result<(), ReadStop>
     ensures { Reads (λ _. params.new.items) result reader.new.rest.now (item_turn param_at params.old.items reader.old.rest.now) }
 {
     reader.mark(Mark::Comma)?;
@@ -79,7 +79,7 @@ fn more_params(reader: &mut Reader<'_>, params: &mut Vec<(Ident, Ty)>) -> Result
 
 /// Reads parameters between commas, at least one.
 #[tactic(auto, unfolding(crate::specs::Reading::list_of), using(crate::proofs::TxnLaws::all_params))]
-fn some_params(alloc: Global, reader: &mut Reader<'_>) -> Result<Vec<(Ident, Ty)>, Halt>
+fn some_params(alloc: Global, reader: &mut Reader<'_>) -> Result<Vec<(Ident, Ty)>, ReadStop>
     ensures { Reads (λ params. params.items) result reader.new.rest.now (list_of param_at reader.old.rest.now) }
 {
     let mut params = Vec::new(alloc);
@@ -92,7 +92,7 @@ fn some_params(alloc: Global, reader: &mut Reader<'_>) -> Result<Vec<(Ident, Ty)
 
 /// Reads the parameters of a transaction, if there are any.
 #[tactic(auto, unfolding(crate::specs::Reading::params_at))]
-fn params(alloc: Global, reader: &mut Reader<'_>) -> Result<Vec<(Ident, Ty)>, Halt>
+fn params(alloc: Global, reader: &mut Reader<'_>) -> Result<Vec<(Ident, Ty)>, ReadStop>
     ensures { Reads (λ params. params.items) result reader.new.rest.now (params_at reader.old.rest.now) }
 {
     if reader.is_mark(Mark::RightParen) {
@@ -103,7 +103,7 @@ fn params(alloc: Global, reader: &mut Reader<'_>) -> Result<Vec<(Ident, Ty)>, Ha
 
 /// Reads a transaction.
 #[tactic(auto, unfolding(crate::specs::Reading::txn_at))]
-fn txn(alloc: Global, reader: &mut Reader<'_>) -> Result<Txn, Halt>
+fn txn(alloc: Global, reader: &mut Reader<'_>) -> Result<Txn, ReadStop>
     ensures { Reads transaction_of result reader.new.rest.now (txn_at reader.old.rest.now) }
 {
     reader.word(b"txn")?;
@@ -129,12 +129,12 @@ fn begins_txn(reader: &Reader<'_>) -> bool
 
 /// Reads a transaction that begins here, if there is room for one more.
 #[tactic(auto, unfolding(crate::specs::Reading::txn_step))]
-fn add_txn(alloc: Global, reader: &mut Reader<'_>, txns: &mut Vec<Txn>) -> Result<(), Halt>
+fn add_txn(alloc: Global, reader: &mut Reader<'_>, txns: &mut Vec<Txn>) -> Result<(), ReadStop>
     requires { begins_txn reader.old.rest.now ≡ true }
     ensures { Reads (λ _. transactions_of txns.new.items) result reader.new.rest.now (txn_step (transactions_of txns.old.items) reader.old.rest.now) }
 {
     if txns.len() >= MOST_TXNS {
-        return Err(Halt::Faulty(reader.too_many()));
+        return Err(ReadStop::Faulty(reader.too_many()));
     }
     let txn = txn(alloc, reader)?;
     txns.push(txn)?;
@@ -143,7 +143,7 @@ fn add_txn(alloc: Global, reader: &mut Reader<'_>, txns: &mut Vec<Txn>) -> Resul
 
 /// Reads the transactions that stand here.
 #[tactic(auto, unfolding(crate::specs::Reading::txns_at), using(crate::proofs::TxnLaws::all_txns))]
-pub fn txns(alloc: Global, reader: &mut Reader<'_>) -> Result<Vec<Txn>, Halt>
+pub fn txns(alloc: Global, reader: &mut Reader<'_>) -> Result<Vec<Txn>, ReadStop>
     ensures { Reads (λ txns. transactions_of txns.items) result reader.new.rest.now (txns_at reader.old.rest.now) }
 {
     let mut txns = Vec::new(alloc);

@@ -1,17 +1,17 @@
 ghost use Rattle.std.specs.Prelude.{◌≡◌, []};
 ghost use Rattle.sv_app.specs.Trees.{term_of, terms_of, sets_of};
-ghost use Rattle.sv_schema_reader.specs.Reading.{Reads, is_next, turns_at};
-ghost use Rattle.sv_txn_reader.specs.Reading.{keep, keys_at, index_at, setting_at, item_step, item_turn, list_of, value_at, set_at};
+ghost use Rattle.sv_reader.specs.Reading.{Reads, is_next, turns_at, keep};
+ghost use Rattle.sv_txn_reader.specs.Reading.{keys_at, index_at, setting_at, item_step, item_turn, list_of, value_at, set_at};
 
 use crate::terms::expr;
 use std::alloc::Global;
 use sv_app::{Expr, Ident};
 use sv_lex::Mark;
-use sv_schema_reader::{Halt, Reader};
+use sv_reader::{ReadStop, Reader};
 
 /// Reads one or two keys.
 #[tactic(auto, unfolding(crate::specs::Reading::keys_at))]
-fn keys(alloc: Global, reader: &mut Reader<'_>) -> Result<Vec<Expr>, Halt>
+fn keys(alloc: Global, reader: &mut Reader<'_>) -> Result<Vec<Expr>, ReadStop>
     ensures { Reads (λ keys. terms_of keys.items) result reader.new.rest.now (keys_at reader.old.rest.now) }
 {
     let mut keys = Vec::new(alloc);
@@ -27,7 +27,7 @@ fn keys(alloc: Global, reader: &mut Reader<'_>) -> Result<Vec<Expr>, Halt>
 
 /// Reads the keys of a row, between brackets.
 #[tactic(auto, unfolding(crate::specs::Reading::index_at))]
-pub fn index(alloc: Global, reader: &mut Reader<'_>) -> Result<Vec<Expr>, Halt>
+pub fn index(alloc: Global, reader: &mut Reader<'_>) -> Result<Vec<Expr>, ReadStop>
     ensures { Reads (λ keys. terms_of keys.items) result reader.new.rest.now (index_at reader.old.rest.now) }
 {
     reader.mark(Mark::LeftBracket)?;
@@ -37,7 +37,7 @@ pub fn index(alloc: Global, reader: &mut Reader<'_>) -> Result<Vec<Expr>, Halt>
 }
 
 #[tactic(auto, unfolding(crate::specs::Reading::item_step, crate::specs::Reading::value_at))]
-fn add_value(alloc: Global, reader: &mut Reader<'_>, values: &mut Vec<Expr>) -> Result<(), Halt>
+fn add_value(alloc: Global, reader: &mut Reader<'_>, values: &mut Vec<Expr>) -> Result<(), ReadStop>
     ensures { Reads (λ _. terms_of values.new.items) result reader.new.rest.now (item_step value_at (terms_of values.old.items) reader.old.rest.now) }
 {
     let value = expr(alloc, reader)?;
@@ -46,7 +46,11 @@ fn add_value(alloc: Global, reader: &mut Reader<'_>, values: &mut Vec<Expr>) -> 
 }
 
 #[tactic(auto, unfolding(crate::specs::Reading::item_turn))]
-fn more_values(alloc: Global, reader: &mut Reader<'_>, values: &mut Vec<Expr>) -> Result<(), Halt>
+fn more_values(
+    alloc: Global,
+    reader: &mut Reader<'_>,
+    values: &mut Vec<Expr>,
+) -> Result<(), ReadStop>
     ensures { Reads (λ _. terms_of values.new.items) result reader.new.rest.now (item_turn value_at (terms_of values.old.items) reader.old.rest.now) }
 {
     reader.mark(Mark::Comma)?;
@@ -55,7 +59,7 @@ fn more_values(alloc: Global, reader: &mut Reader<'_>, values: &mut Vec<Expr>) -
 
 /// Reads values between commas.
 #[tactic(auto, unfolding(crate::specs::Reading::list_of), using(crate::proofs::ListLaws::values))]
-pub fn values(alloc: Global, reader: &mut Reader<'_>) -> Result<Vec<Expr>, Halt>
+pub fn values(alloc: Global, reader: &mut Reader<'_>) -> Result<Vec<Expr>, ReadStop>
     ensures { Reads (λ values. terms_of values.items) result reader.new.rest.now (list_of value_at reader.old.rest.now) }
 {
     let mut values = Vec::new(alloc);
@@ -68,7 +72,7 @@ pub fn values(alloc: Global, reader: &mut Reader<'_>) -> Result<Vec<Expr>, Halt>
 
 /// Reads a name and what it is set to.
 #[tactic(auto, unfolding(crate::specs::Reading::setting_at))]
-pub fn setting(alloc: Global, reader: &mut Reader<'_>) -> Result<(Ident, Expr), Halt>
+pub fn setting(alloc: Global, reader: &mut Reader<'_>) -> Result<(Ident, Expr), ReadStop>
     ensures { Reads (λ s. (s.0, term_of s.1)) result reader.new.rest.now (setting_at reader.old.rest.now) }
 {
     let name = reader.name()?;
@@ -82,7 +86,7 @@ fn add_set(
     alloc: Global,
     reader: &mut Reader<'_>,
     sets: &mut Vec<(Ident, Expr)>,
-) -> Result<(), Halt>
+) -> Result<(), ReadStop>
     ensures { Reads (λ _. sets_of sets.new.items) result reader.new.rest.now (item_step set_at (sets_of sets.old.items) reader.old.rest.now) }
 {
     let set = setting(alloc, reader)?;
@@ -95,7 +99,7 @@ fn more_sets(
     alloc: Global,
     reader: &mut Reader<'_>,
     sets: &mut Vec<(Ident, Expr)>,
-) -> Result<(), Halt>
+) -> Result<(), ReadStop>
     ensures { Reads (λ _. sets_of sets.new.items) result reader.new.rest.now (item_turn set_at (sets_of sets.old.items) reader.old.rest.now) }
 {
     reader.mark(Mark::Comma)?;
@@ -104,7 +108,7 @@ fn more_sets(
 
 /// Reads the sets of an update, between commas.
 #[tactic(auto, unfolding(crate::specs::Reading::list_of), using(crate::proofs::ListLaws::sets))]
-pub fn sets(alloc: Global, reader: &mut Reader<'_>) -> Result<Vec<(Ident, Expr)>, Halt>
+pub fn sets(alloc: Global, reader: &mut Reader<'_>) -> Result<Vec<(Ident, Expr)>, ReadStop>
     ensures { Reads (λ sets. sets_of sets.items) result reader.new.rest.now (list_of set_at reader.old.rest.now) }
 {
     let mut sets = Vec::new(alloc);

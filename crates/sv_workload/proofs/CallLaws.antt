@@ -10,16 +10,19 @@ use Rattle.sv_lex.specs.declared.tokens.TokenKind.TheVariants.{Name, Number, Tex
 use Rattle.sv_app.specs.declared.apps.Ident.{Ident}
 use Rattle.sv_app.specs.declared.requests.Arg.{Arg}
 use Rattle.sv_app.specs.declared.requests.Arg.TheVariants as args
-use Rattle.sv_schema_reader.specs.Grammar.{Both, ◌·◌, kind, mark, name}
-use Rattle.sv_schema_reader.specs.Reading.{Read, ◌>>=◌, is_kind, is_next, kind_at}
-use Rattle.sv_schema_reader.proofs.MadeLaws.{Made, both_map, take_last, take_plain, skip_plain}
-use Rattle.sv_schema_reader.proofs.PartLaws.{next_alike, kind_next, name_law}
-use Rattle.sv_schema_reader.proofs.ReadLaws.{Plain, anything, Either, Left, Right, either, same_plain}
+use Rattle.sv_reader.specs.Grammar.{Both, ◌·◌, kind, mark, name}
+use Rattle.sv_reader.specs.Reading.{Read, ◌>>=◌, is_kind, is_next, kind_at}
+use Rattle.sv_reader.proofs.MadeLaws.{Made, both_map, take_last, take_plain, skip_plain}
+use Rattle.sv_reader.proofs.AnswerLaws.{next_alike}
+use Rattle.sv_reader.proofs.PartLaws.{kind_next, name_law}
+use Rattle.sv_reader.proofs.AnswerLaws.{anything}
+use Rattle.sv_reader.proofs.ReadLaws.{Plain, Either, Left, Right, either, same_plain}
 use Rattle.sv_workload.specs.declared.written.Call.{Call}
 use Rattle.sv_workload.specs.Grammar.{listed, IsInteger, Plain as PlainInteger, Negated, value, argument, call}
 use Rattle.sv_workload.specs.Reading.{listed_to, integers_at, arg_of, argument_at, call_at}
 use Rattle.sv_workload.proofs.ManyLaws.{listed_law}
 use Rattle.sv_workload.proofs.ValueLaws.{integer_law, value_law}
+use Rattle.sv_reader.proofs.MatterLaws.{bare}
 
 -- no integer, value or argument begins with another mark
 
@@ -31,7 +34,7 @@ value_mark : (m : IsMark) → is_kind (Mark m) (Mark Minus) ≡ false → (v : V
 value_mark m apart (vals.Int z) front rest is = integer_mark m apart z front rest is
 value_mark m apart (vals.Text t) front rest is = ap (λ x. is_next (Mark m) (x ++ rest)) is.only ∙ ap (is_kind (Mark m)) is.holds
 
-pub integers_law : Plain anything (λ ns. listed IsInteger ns · mark RightBracket) integers_at
+pub integers_law : Plain bare anything (λ ns. listed IsInteger ns · mark RightBracket) integers_at
 unfolding integers_at
 integers_law = listed_law (Mark RightBracket) integer_law refl (integer_mark RightBracket refl)
 
@@ -41,7 +44,7 @@ IntsArg = Made (λ ns. args.Ints ns) (λ ns. mark LeftBracket · listed IsIntege
 abbrev ValueArg : Arg → List Token → Type 0
 ValueArg = Made arg_of value
 
-pub argument_law : Plain anything argument argument_at
+pub argument_law : Plain bare anything argument argument_at
 unfolding argument_at
 argument_law = same_plain
     (either (is_next (Mark LeftBracket)) (next_alike (λ token. is_kind (Mark LeftBracket) token.kind))
@@ -68,13 +71,13 @@ argument_mark (args.Int z) front rest is = integer_mark RightParen refl z front 
 argument_mark (args.Text t) front rest is = ap (λ x. is_next (Mark RightParen) (x ++ rest)) is.only ∙ ap (is_kind (Mark RightParen)) is.holds
 argument_mark (args.Ints ns) front rest is = ap (λ x. is_next (Mark RightParen) (x ++ rest)) (is.whole ∙ ap (λ x. x ++ is.back) is.first.only) ∙ ap (is_kind (Mark RightParen)) is.first.holds
 
-pub arguments_law : Plain anything (λ arguments. listed argument arguments · mark RightParen) (listed_to (Mark RightParen) argument_at)
+pub arguments_law : Plain bare anything (λ arguments. listed argument arguments · mark RightParen) (listed_to (Mark RightParen) argument_at)
 arguments_law = listed_law (Mark RightParen) argument_law refl argument_mark
 
 abbrev call_made : Ident → List Arg → Call
 call_made txn arguments = record { txn = txn; args = arguments }
 
-pub call_law : Plain anything call call_at
+pub call_law : Plain bare anything call call_at
 unfolding call_at
-call_law = same_plain (take_plain call_made (name_law anything) (λ txn. skip_plain (Mark LeftParen) (call_made txn) (take_last (call_made txn) arguments_law)))
+call_law = same_plain (take_plain call_made (name_law bare anything) (λ txn. skip_plain (Mark LeftParen) (call_made txn) (take_last (call_made txn) arguments_law)))
     (λ c l m. subst (λ x. call x l) (sym m.made) m.is) (λ c l is. record { «from» = (c.txn, c.args); is = is; made = refl })

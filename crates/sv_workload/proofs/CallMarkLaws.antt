@@ -13,15 +13,16 @@ use Rattle.sv_app.specs.declared.schemas.Ty.{Ty}
 use Rattle.sv_app.specs.declared.schemas.Ty.TheVariants as types
 use Rattle.sv_app.specs.Codes.{number_of}
 use Rattle.sv_app.specs.Trees.{Transaction}
-use Rattle.sv_schema_reader.specs.declared.faults.Fault.{Fault}
-use Rattle.sv_schema_reader.specs.Grammar.{Both, ◌·◌, kind, mark, name, IsName, others, separated}
-use Rattle.sv_schema_reader.specs.Reading.{Read, ◌>>=◌, name_of, name_at}
-use Rattle.sv_schema_reader.proofs.KindLaws.{token_of}
-use Rattle.sv_schema_reader.proofs.MadeLaws.{Made, take_plain, skip_last}
-use Rattle.sv_schema_reader.proofs.PartLaws.{name_is, name_law}
-use Rattle.sv_schema_reader.proofs.PartLaws as parts
-use Rattle.sv_schema_reader.proofs.ReadLaws.{Plain, anything, Took, same_plain, same_read}
-use Rattle.sv_schema_reader.proofs.SideLaws.{both_assoc, assoc_both}
+use Rattle.sv_reader.specs.declared.faults.ReadFault.{ReadFault}
+use Rattle.sv_reader.specs.Grammar.{Both, ◌·◌, kind, mark, name, IsName, others, separated}
+use Rattle.sv_reader.specs.Reading.{Read, ◌>>=◌, name_of, name_at}
+use Rattle.sv_reader.proofs.KindLaws.{token_of}
+use Rattle.sv_reader.proofs.MadeLaws.{Made, take_plain, skip_last}
+use Rattle.sv_reader.proofs.PartLaws.{name_is, name_law}
+use Rattle.sv_reader.proofs.PartLaws as parts
+use Rattle.sv_reader.proofs.AnswerLaws.{anything, same_read}
+use Rattle.sv_reader.proofs.ReadLaws.{Plain, Took, same_plain}
+use Rattle.sv_reader.proofs.PartLaws.{both_assoc, assoc_both}
 use Rattle.sv_workload.specs.declared.written.Call.{Call}
 use Rattle.sv_workload.specs.Elements.{Refusals, Begins}
 use Rattle.sv_workload.specs.Fits.{ArgFits, ArgsFit, CallFits, txn_of}
@@ -34,6 +35,7 @@ use Rattle.sv_workload.proofs.LongLaws.{InArgs, args_in, FirstLong, first_args, 
 use Rattle.sv_workload.proofs.MarkLaws.{FirstMark, Marks, Before, marks_or, marks_map}
 use Rattle.sv_workload.proofs.RowLaws.{both_true, true_both}
 use Rattle.sv_workload.proofs.ValueLaws.{head_same}
+use Rattle.sv_reader.proofs.MatterLaws.{bare}
 
 -- arguments by test
 
@@ -72,8 +74,8 @@ fitting_args (p ∷ ps) [] is = absurd is
 fitting_args (p ∷ ps) (a ∷ passed) is = true_both (arg_fits p.1 a) (args_fit ps passed) (fit_arg p.1 a is.0) (fitting_args ps passed is.1)
 
 -- a name and a parenthesis
-opening_law : Plain anything (λ txn. name txn · mark LeftParen) opening_at
-opening_law = same_plain (take_plain (λ txn (last : Unit {0}). txn) (name_law anything) (λ txn. skip_last anything (Mark LeftParen) txn))
+opening_law : Plain bare anything (λ txn. name txn · mark LeftParen) opening_at
+opening_law = same_plain (take_plain (λ txn (last : Unit {0}). txn) (name_law bare anything) (λ txn. skip_last bare anything (Mark LeftParen) txn))
     (λ txn l m. subst (λ x. (name x · mark LeftParen) l) (sym m.made) m.is) (λ txn l is. record { «from» = (txn, tt); is = is; made = refl })
 
 -- arguments and the beginning of another one
@@ -390,7 +392,7 @@ module _ (txns : List Transaction) (token : Token) (others' : List Token) (ident
   pub call_marks : Marks call tokens (CallRefused txns tokens) (call_mark txns tokens)
   call_marks = marks_map into (λ code here is. out code here tokens refl is) (marks_or front_marks (long_marks tokens) order)
     where
-      order : (fault : Fault) → at_front (call_code (txn_meant txns tokens) (call_at tokens)) tokens ≡ Some fault → (code : Code) (here : List Token) → LongAt tokens code here → Before fault code here
+      order : (fault : ReadFault) → at_front (call_code (txn_meant txns tokens) (call_at tokens)) tokens ≡ Some fault → (code : Code) (here : List Token) → LongAt tokens code here → Before fault code here
       order fault e code here is = by_code (call_code (txn_meant txns tokens) (call_at tokens)) e
         where
           some_front : (front : List Token) → IsInList 64 front → 1 ≤ length front
@@ -399,7 +401,7 @@ module _ (txns : List Transaction) (token : Token) (others' : List Token) (ident
           by_code : (c : Option Code) → at_front c tokens ≡ Some fault → Before fault code here
           by_code None e = absurd cc
           by_code (Some c) e = let same : record { code = c; left = length tokens } ≡ fault = cc in
-              inl (omega (arith, ap (λ (f : Fault). f.left) same, ap length is.1.whole, length-append is.1.front here, some_front is.1.front is.1.is))
+              inl (omega (arith, ap (λ (f : ReadFault). f.left) same, ap length is.1.whole, length-append is.1.front here, some_front is.1.front is.1.is))
 
       by_wrong : (code : Code) → CallWrong txns tokens code → CallRefused txns tokens code tokens
       by_wrong code (Nameless s txn is none) = subst (λ c. CallRefused txns tokens c tokens) (sym s) (NoTxn txn is none)

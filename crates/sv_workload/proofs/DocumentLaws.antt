@@ -14,10 +14,10 @@ use Rattle.sv_app.specs.Trees.{Transaction}
 use Rattle.sv_app.specs.Valid.{Valid}
 use Rattle.sv_check.specs.Initial.{initial_tables}
 use Rattle.sv_check.specs.Initial as checked
-use Rattle.sv_schema_reader.specs.declared.faults.Fault.{Fault}
-use Rattle.sv_schema_reader.specs.Grammar.{◌·◌}
-use Rattle.sv_schema_reader.specs.Reading.{Read, IsLeft}
-use Rattle.sv_schema_reader.specs.Refused.{spot_of}
+use Rattle.sv_reader.specs.declared.faults.ReadFault.{ReadFault}
+use Rattle.sv_reader.specs.Grammar.{◌·◌}
+use Rattle.sv_reader.specs.Reading.{Read, IsLeft}
+use Rattle.sv_reader.specs.Places.{spot_of}
 use Rattle.sv_workload.specs.declared.parts.Parts.{Parts}
 use Rattle.sv_workload.specs.declared.parts.Work.TheVariants as works
 use Rattle.sv_workload.specs.declared.written.PartHead.{PartHead}
@@ -30,7 +30,7 @@ use Rattle.sv_workload.specs.InitRefused.{InitRefused, AreInit, NoInit, Init}
 use Rattle.sv_workload.specs.LastRefused.{LastRefused, NoPart, InSettings, NoSites, InLines, InSessions, part_head}
 use Rattle.sv_workload.specs.Reading.{init_from}
 use Rattle.sv_workload.specs.Rows.{init_row}
-use Rattle.sv_workload.specs.Stops.{refusal_of, IsBad, InitStops, ByFault, ByRow, InitKept}
+use Rattle.sv_workload.specs.Stops.{IsBad, InitStops, ByFault, ByRow, InitKept}
 use Rattle.sv_workload.specs.Written.{Last, Absent, Replay, Run}
 use Rattle.sv_workload.proofs.InitLaws.{InitRows, init_judged}
 use Rattle.sv_workload.proofs.JudgeLaws.{Found}

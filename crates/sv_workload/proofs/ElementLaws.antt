@@ -5,37 +5,39 @@ use Rattle.sv_lex.specs.declared.marks.Mark.TheVariants.{RightParen, Comma}
 use Rattle.sv_lex.specs.declared.tokens.Token.{Token}
 use Rattle.sv_lex.specs.declared.tokens.TokenKind.TheVariants.{Mark}
 use Rattle.sv_app.specs.declared.refusals.Code.TheVariants.{Syntax, Many}
-use Rattle.sv_schema_reader.specs.declared.faults.Fault.{Fault}
-use Rattle.sv_schema_reader.specs.Grammar.{Both, ◌·◌, mark, separated}
-use Rattle.sv_schema_reader.specs.Reading.{Read, ◌>>=◌, refuse, list_at}
-use Rattle.sv_schema_reader.proofs.ListLaws.{all_added, Listed, Rooms, Any, list, list_limited}
-use Rattle.sv_schema_reader.proofs.ReadLaws.{Alike, Start, Stuck, Over, Lawful, Plain, Limited, limited, anything, same_plain, none}
-use Rattle.sv_schema_reader.proofs.StepLaws.{Stepping}
-use Rattle.sv_schema_reader.proofs.TextLaws.{snoc, all_snoc}
+use Rattle.sv_reader.specs.declared.faults.ReadFault.{ReadFault}
+use Rattle.sv_reader.specs.Grammar.{Both, ◌·◌, mark, separated}
+use Rattle.sv_reader.specs.Reading.{Read, ◌>>=◌, refuse, list_at}
+use Rattle.sv_reader.proofs.ListLaws.{all_added, Listed, Rooms, Any, list, list_limited}
+use Rattle.sv_reader.proofs.AnswerLaws.{Alike, anything}
+use Rattle.sv_reader.proofs.ReadLaws.{Start, Stuck, Over, Lawful, Plain, Limited, limited, same_plain, none}
+use Rattle.sv_reader.proofs.StepLaws.{Stepping}
+use Rattle.sv_reader.proofs.ListLaws.{snoc, all_snoc}
 use Rattle.sv_workload.specs.Elements.{Begins, IsMisplaced}
+use Rattle.sv_reader.proofs.MatterLaws.{bare}
 
 -- what passes no limit in a language of which all is small
-pub plain_of : {A : Type 0} {P : A → List Token → Type 0} {read : List Token → Read A} → Limited anything P P read → Plain anything P read
+pub plain_of : {A : Type 0} {P : A → List Token → Type 0} {read : List Token → Read A} → Limited bare anything P P read → Plain bare anything P read
 plain_of {A} {P} {read} law = record { inside = law.inside; some = law.some; took = law.took; reads = law.reads; all = law.all; fails = λ tokens fault e. by_fails tokens fault (law.fails tokens fault e) }
   where
-    no_over : (tokens : List Token) (fault : Fault) → Over P P read tokens fault → ⊥
+    no_over : (tokens : List Token) (fault : ReadFault) → Over bare P P read tokens fault → ⊥
     no_over tokens fault over =
         let start = over.begins in
         let ok : read (over.front ++ over.element ++ start.more ++ []) ≡ Ok (start.item, []) = law.reads start.item (over.front ++ over.element ++ start.more) [] start.is refl in
         let clash : ◌≡◌ {A = Read A} (Ok (start.item, [])) (refuse Many (over.element ++ start.more)) = sym ok ∙ ap read (append-nil (over.front ++ over.element ++ start.more)) ∙ over.again start.more in
         absurd cc
 
-    by_fails : (tokens : List Token) (fault : Fault) → Stuck P P read tokens fault ⊎ Over P P read tokens fault → Stuck P P read tokens fault ⊎ none tokens fault
+    by_fails : (tokens : List Token) (fault : ReadFault) → Stuck bare P P read tokens fault ⊎ Over bare P P read tokens fault → Stuck bare P P read tokens fault ⊎ none tokens fault
     by_fails tokens fault (inl stuck) = inl stuck
     by_fails tokens fault (inr over) = inr (no_over tokens fault over)
 
 -- x {"," x} ")"
-module _ {A : Type 0} {P : A → List Token → Type 0} {p : List Token → Read A} (law : Plain anything P p) (some : (x : A) (l : List Token) → P x l → l ≡ [] → ⊥)
+module _ {A : Type 0} {P : A → List Token → Type 0} {p : List Token → Read A} (law : Plain bare anything P p) (some : (x : A) (l : List Token) → P x l → l ≡ [] → ⊥)
     (no_comma : (x : A) (token : Token) (l : List Token) → P x (token ∷ l) → token.kind ≡ Mark Comma → ⊥) where
   abbrev over : List A → List Token → Bool
   over xs tokens = false
 
-  pub stepping : Stepping anything over (λ _. p) (λ _. P) (λ _. P) Any
+  pub stepping : Stepping bare anything over (λ _. p) (λ _. P) (λ _. P) Any
   stepping = record {
     alike = λ xs a b alike. refl;
     law = λ _. limited law;
@@ -51,7 +53,7 @@ module _ {A : Type 0} {P : A → List Token → Type 0} {p : List Token → Read
   any_rooms s [] = tt
   any_rooms s (x ∷ xs) = (tt, any_rooms (s ++ x ∷ []) xs)
 
-  pub list_plain : Plain anything (list P) (list_at (λ xs tokens. p tokens >>= λ x r. Ok (xs ++ x ∷ [], r)) [])
+  pub list_plain : Plain bare anything (list P) (list_at (λ xs tokens. p tokens >>= λ x r. Ok (xs ++ x ∷ [], r)) [])
   list_plain = same_plain (plain_of (list_limited stepping snoc (λ token l e. refl) (λ token l e. refl) [] (λ l. refl) (λ x. tt))) into out
     where
       into : (xs : List A) (l : List Token) → Listed snoc Any (list P) [] xs l → list P xs l
@@ -61,7 +63,7 @@ module _ {A : Type 0} {P : A → List Token → Type 0} {p : List Token → Read
       out xs l is = record { items = xs; made = sym (all_snoc [] xs); is = is; rooms = any_rooms [] xs }
 
 -- where an element is misplaced
-pub record Missing {A : Type 0} (P : A → List Token → Type 0) (tokens : List Token) (fault : Fault) : Type 0 where
+pub record Missing {A : Type 0} (P : A → List Token → Type 0) (tokens : List Token) (fault : ReadFault) : Type 0 where
   pub here : List Token
   pub is : IsMisplaced P tokens here
   pub place : fault ≡ record { code = Syntax; left = length here }
@@ -69,10 +71,10 @@ pub record Missing {A : Type 0} (P : A → List Token → Type 0) (tokens : List
 alike_cons : (rest : List Token) (token : Token) (others last : List Token) → rest ≡ token ∷ others → Alike rest (token ∷ last)
 alike_cons rest token others last e = subst (λ l. Alike l (token ∷ last)) (sym e) refl
 
-pub missing : {A : Type 0} {P : A → List Token → Type 0} {read : List Token → Read A} → Plain anything P read → (tokens : List Token) (fault : Fault) → read tokens ≡ Err fault → Missing P tokens fault
+pub missing : {A : Type 0} {P : A → List Token → Type 0} {read : List Token → Read A} → Plain bare anything P read → (tokens : List Token) (fault : ReadFault) → read tokens ≡ Err fault → Missing P tokens fault
 missing {A} {P} {read} law tokens fault e = by_stuck (law.fails tokens fault e)
   where
-    by_stuck : Stuck P P read tokens fault ⊎ ⊥ → Missing P tokens fault
+    by_stuck : Stuck bare P P read tokens fault ⊎ ⊥ → Missing P tokens fault
     by_stuck (inr never) = absurd never
     by_stuck (inl stuck) = record {
       here = stuck.rest;

@@ -9,12 +9,13 @@ use Rattle.sv_app.specs.declared.refusals.Code.{Code}
 use Rattle.sv_app.specs.declared.refusals.Code.TheVariants.{Many}
 use Rattle.sv_app.specs.Codes.{number_of}
 use Rattle.sv_app.specs.Trees.{Transaction}
-use Rattle.sv_schema_reader.specs.declared.faults.Fault.{Fault}
-use Rattle.sv_schema_reader.specs.Reading.{Read, given, is_name}
-use Rattle.sv_schema_reader.proofs.KindLaws.{token_of}
-use Rattle.sv_schema_reader.proofs.MadeLaws.{take_plain, skip_last}
-use Rattle.sv_schema_reader.proofs.PartLaws.{name_next}
-use Rattle.sv_schema_reader.proofs.ReadLaws.{Plain, anything, same_plain}
+use Rattle.sv_reader.specs.declared.faults.ReadFault.{ReadFault}
+use Rattle.sv_reader.specs.Reading.{Read, given, is_name}
+use Rattle.sv_reader.proofs.KindLaws.{token_of}
+use Rattle.sv_reader.proofs.MadeLaws.{take_plain, skip_last}
+use Rattle.sv_reader.proofs.PartLaws.{name_next}
+use Rattle.sv_reader.proofs.AnswerLaws.{anything}
+use Rattle.sv_reader.proofs.ReadLaws.{Plain, same_plain}
 use Rattle.sv_workload.specs.declared.written.Call.{Call}
 use Rattle.sv_workload.specs.Elements.{Refusals, Begins, IsMisplaced, AreNone}
 use Rattle.sv_workload.specs.Grammar.{call, entry}
@@ -28,13 +29,14 @@ use Rattle.sv_workload.proofs.InitLaws.{named, name_begins, begins_row, contra}
 use Rattle.sv_workload.proofs.JudgeLaws.{Judged, judged_map}
 use Rattle.sv_workload.proofs.LoopLaws.{Element, Steps}
 use Rattle.sv_workload.proofs.MarkLaws.{FirstMark, Marks, At, Before, place_marks, lift_marks, Standing, Mark as OfMark, Misplaced, judged_marked}
+use Rattle.sv_reader.proofs.MatterLaws.{bare}
 
 abbrev entry_made : Call → Unit {0} → Call
 entry_made c last = c
 
-pub entry_law : Plain anything entry entry_at
+pub entry_law : Plain bare anything entry entry_at
 unfolding entry_at
-entry_law = same_plain (take_plain entry_made call_law (λ c. skip_last anything (Mark Semi) c))
+entry_law = same_plain (take_plain entry_made call_law (λ c. skip_last bare anything (Mark Semi) c))
     (λ c l m. subst (λ x. entry x l) (sym m.made) m.is) (λ c l is. record { «from» = (c, tt); is = is; made = refl })
 
 -- the earlier of two marks
@@ -53,21 +55,21 @@ abbrev Any : Refusals → Refusals → Refusals
 Any m n code here = m code here ⊎ n code here
 
 -- what isn't before the first of a kind
-low_of : {A : Type 0} {P : A → List Token → Type 0} {tokens : List Token} {marked : Refusals} (f : Fault) (x : FirstMark P tokens marked f) (other : Code) (there : List Token) → marked other there → Before f other there
+low_of : {A : Type 0} {P : A → List Token → Type 0} {tokens : List Token} {marked : Refusals} (f : ReadFault) (x : FirstMark P tokens marked f) (other : Code) (there : List Token) → marked other there → Before f other there
 low_of f x other there is = subst (λ k. (length there < k) ⊎ ((length there ≡ k) × (number_of f.code ≤ number_of other))) (sym x.place) (x.first.first other there is)
 
-low_under : (f g : Fault) (other : Code) (there : List Token) → (g.left < f.left) ⊎ ((g.left ≡ f.left) × (number_of f.code ≤ number_of g.code)) → Before g other there → Before f other there
+low_under : (f g : ReadFault) (other : Code) (there : List Token) → (g.left < f.left) ⊎ ((g.left ≡ f.left) × (number_of f.code ≤ number_of g.code)) → Before g other there → Before f other there
 low_under f g other there (inl lt) (inl l) = inl (omega (arith, lt, l))
 low_under f g other there (inl lt) (inr l) = inl (omega (arith, lt, l.0))
 low_under f g other there (inr e) (inl l) = inl (omega (arith, e.0, l))
 low_under f g other there (inr e) (inr l) = inr (l.0 ∙ e.0, omega (arith, e.1, l.1))
 
 module _ {A : Type 0} {P : A → List Token → Type 0} {tokens : List Token} {m n : Refusals} where
-  marks_within : {first second : Option Fault} → Marks P tokens m first → Marks P tokens n second → (code : Code) (here : List Token) → Any m n code here → length here ≤ length tokens
+  marks_within : {first second : Option ReadFault} → Marks P tokens m first → Marks P tokens n second → (code : Code) (here : List Token) → Any m n code here → length here ≤ length tokens
   marks_within a b code here (inl is) = a.within code here is
   marks_within a b code here (inr is) = b.within code here is
 
-  first_left : (f : Fault) → FirstMark P tokens m f → ((other : Code) (there : List Token) → n other there → Before f other there) → FirstMark P tokens (Any m n) f
+  first_left : (f : ReadFault) → FirstMark P tokens m f → ((other : Code) (there : List Token) → n other there → Before f other there) → FirstMark P tokens (Any m n) f
   first_left f x low = record {
     pre = x.pre;
     token = x.token;
@@ -85,7 +87,7 @@ module _ {A : Type 0} {P : A → List Token → Type 0} {tokens : List Token} {m
       by_any other there (inl is) = x.first.first other there is
       by_any other there (inr is) = moved other there (low other there is)
 
-  first_right : (f : Fault) → FirstMark P tokens n f → ((other : Code) (there : List Token) → m other there → Before f other there) → FirstMark P tokens (Any m n) f
+  first_right : (f : ReadFault) → FirstMark P tokens n f → ((other : Code) (there : List Token) → m other there → Before f other there) → FirstMark P tokens (Any m n) f
   first_right f x low = record {
     pre = x.pre;
     token = x.token;
@@ -103,8 +105,8 @@ module _ {A : Type 0} {P : A → List Token → Type 0} {tokens : List Token} {m
       by_any other there (inl is) = moved other there (low other there is)
       by_any other there (inr is) = x.first.first other there is
 
-  pub marks_sooner : (first second : Option Fault) → Marks P tokens m first → Marks P tokens n second
-      → ((f g : Fault) → first ≡ Some f → second ≡ Some g → f.left ≡ g.left → number_of f.code ≤ number_of g.code) → Marks P tokens (Any m n) (sooner first second)
+  pub marks_sooner : (first second : Option ReadFault) → Marks P tokens m first → Marks P tokens n second
+      → ((f g : ReadFault) → first ≡ Some f → second ≡ Some g → f.left ≡ g.left → number_of f.code ≤ number_of g.code) → Marks P tokens (Any m n) (sooner first second)
   marks_sooner None second a b tie = record { none = λ e code here is. never e code here is; some = λ f e. first_right f (b.some f e) (λ other there is. absurd (a.none refl other there is)); within = marks_within a b }
     where
       never : second ≡ None → (code : Code) (here : List Token) → Any m n code here → ⊥
@@ -117,7 +119,7 @@ module _ {A : Type 0} {P : A → List Token → Type 0} {tokens : List Token} {m
   }
   marks_sooner (Some f) (Some g) a b tie = by_test (nat_lt f.left g.left) refl
     where
-      one : (x : Fault) → FirstMark P tokens (Any m n) x → Marks P tokens (Any m n) (Some x)
+      one : (x : ReadFault) → FirstMark P tokens (Any m n) x → Marks P tokens (Any m n) (Some x)
       one x first = record { none = λ e. absurd cc; some = λ y e. let same : x ≡ y = cc in subst (λ z. FirstMark P tokens (Any m n) z) same first; within = marks_within a b }
 
       under : g.left ≤ f.left → (g.left < f.left) ⊎ ((g.left ≡ f.left) × (number_of f.code ≤ number_of g.code))
@@ -188,7 +190,7 @@ module _ (txns : List Transaction) where
     entry_marks : Marks entry tokens (λ code here. CallRefused txns tokens code here ⊎ Crowded count tokens code here) (entry_mark txns count tokens)
     entry_marks = marks_sooner (call_mark txns tokens) (crowd_mark count tokens) call_part crowd_part tie
       where
-        tie : (f g : Fault) → call_mark txns tokens ≡ Some f → crowd_mark count tokens ≡ Some g → f.left ≡ g.left → number_of f.code ≤ number_of g.code
+        tie : (f g : ReadFault) → call_mark txns tokens ≡ Some f → crowd_mark count tokens ≡ Some g → f.left ≡ g.left → number_of f.code ≤ number_of g.code
         tie f g c d same =
             let x = call_part.some f c in
             let y = crowd_part.some g d in
@@ -240,7 +242,7 @@ module _ (txns : List Transaction) where
         by_front [] is w = absurd (entry_some c is)
         by_front (x ∷ front) is w = omega (arith, ap length w, length-append front rest)
 
-        by_mark : (mark : Option Fault) → settled mark (entry_at tokens) ≡ Ok (c, rest) → length rest < length tokens
+        by_mark : (mark : Option ReadFault) → settled mark (entry_at tokens) ≡ Ok (c, rest) → length rest < length tokens
         by_mark (Some fault) e = absurd cc
         by_mark None e = let took = entry_law.took tokens c rest e in by_front took.front took.is took.whole
 

@@ -25,7 +25,7 @@ use Rattle.sv_effect.specs.RowChange.{key_values}
 use Rattle.sv_effect.specs.RunChanges.{key_in}
 use Rattle.sv_effect.specs.RunValues.{nothing}
 use Rattle.sv_effect.specs.TablesOfCut.{init_place}
-use Rattle.sv_schema_reader.specs.Reading.{is_name}
+use Rattle.sv_reader.specs.Reading.{is_name}
 use Rattle.sv_workload.specs.declared.written.Row.{Row}
 use Rattle.sv_workload.specs.Elements.{Among, Here, Behind, AreNone}
 use Rattle.sv_workload.specs.Fits.{RowFits}

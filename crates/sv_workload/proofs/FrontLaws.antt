@@ -10,11 +10,12 @@ use Rattle.sv_app.specs.declared.refusals.Code.TheVariants.{Syntax}
 use Rattle.sv_app.specs.Codes.{number_of}
 use Rattle.sv_app.specs.Schema.{Declaration}
 use Rattle.sv_app.specs.Trees.{Transaction}
-use Rattle.sv_schema_reader.specs.Grammar.{◌·◌, kind, word}
-use Rattle.sv_schema_reader.specs.Reading.{◌>>=◌, by_word, token_at}
-use Rattle.sv_schema_reader.proofs.KindLaws.{token_of}
-use Rattle.sv_schema_reader.proofs.MadeLaws.{take_last, skip_plain}
-use Rattle.sv_schema_reader.proofs.ReadLaws.{Plain, anything, leaf, same_plain, same_read}
+use Rattle.sv_reader.specs.Grammar.{◌·◌, kind, word}
+use Rattle.sv_reader.specs.Reading.{◌>>=◌, by_word, token_at}
+use Rattle.sv_reader.proofs.KindLaws.{token_of}
+use Rattle.sv_reader.proofs.MadeLaws.{take_last, skip_plain}
+use Rattle.sv_reader.proofs.AnswerLaws.{anything, same_read}
+use Rattle.sv_reader.proofs.ReadLaws.{Plain, leaf, same_plain}
 use Rattle.sv_workload.specs.declared.written.Given.{Given}
 use Rattle.sv_workload.specs.declared.written.PartHead.{PartHead}
 use Rattle.sv_workload.specs.declared.written.PartHead.TheVariants.{Replay as ReplayHead, Run as RunHead}
@@ -28,6 +29,7 @@ use Rattle.sv_workload.proofs.LoopLaws.{Element, Elements, judged_loop}
 use Rattle.sv_workload.proofs.MarkLaws.{no_marks, Standing, Mark as OfMark, Misplaced, judged_marked}
 use Rattle.sv_workload.proofs.SettingLaws.{state, begins_set, set_begins, setting_steps}
 use Rattle.sv_workload.proofs.InitLaws.{contra}
+use Rattle.sv_reader.proofs.MatterLaws.{bare}
 
 -- the heads by their words
 
@@ -56,8 +58,8 @@ heads (Number n) head e = absurd cc
 heads (Text bytes) head e = absurd cc
 heads (Mark m) head e = absurd cc
 
-head_leaf : Plain anything (λ head. word (head_word head)) (token_at part_of)
-head_leaf = same_plain (leaf anything part_of (token_of (Name (codes "run"))) RunHead refl)
+head_leaf : Plain bare anything (λ head. word (head_word head)) (token_at part_of)
+head_leaf = same_plain (leaf bare anything part_of (token_of (Name (codes "run"))) RunHead refl)
     (λ head l m. record { token = m.token; only = m.only; holds = heads m.token.kind head m.holds })
     (λ head l w. record { token = w.token; only = w.only; holds = ap (by_word part_named) w.holds ∙ head_there head })
 
@@ -69,7 +71,7 @@ written_head : (head : PartHead) (l : List Token) → part_head head l → (kind
 written_head ReplayHead l is = is
 written_head RunHead l is = is
 
-pub head_law : Plain anything part_head head_at
+pub head_law : Plain bare anything part_head head_at
 unfolding head_at
 head_law = same_plain (skip_plain (Mark Percents) (λ head. head) (take_last (λ head. head) head_leaf))
     (λ head l m. subst (λ x. part_head x l) (sym m.made) (head_written m.«from» l m.is)) (λ head l is. record { «from» = head; is = written_head head l is; made = refl })

@@ -11,13 +11,14 @@ use Rattle.sv_app.specs.declared.refusals.Code.TheVariants.{Syntax, Unknown, Twi
 use Rattle.sv_app.specs.declared.requests.InitRow.{InitRow}
 use Rattle.sv_app.specs.Codes.{number_of}
 use Rattle.sv_app.specs.Schema.{Declaration}
-use Rattle.sv_schema_reader.specs.declared.faults.Fault.{Fault}
-use Rattle.sv_schema_reader.specs.Grammar.{Both, ◌·◌, IsName}
-use Rattle.sv_schema_reader.specs.Reading.{Read, is_kind, is_some, name_of, is_name}
-use Rattle.sv_schema_reader.proofs.KindLaws.{token_of, kind_is, kind_same}
-use Rattle.sv_schema_reader.proofs.PartLaws.{name_is, name_next}
-use Rattle.sv_schema_reader.proofs.PartLaws as parts
-use Rattle.sv_schema_reader.proofs.ReadLaws.{Took, same_read}
+use Rattle.sv_reader.specs.declared.faults.ReadFault.{ReadFault}
+use Rattle.sv_reader.specs.Grammar.{Both, ◌·◌, IsName}
+use Rattle.sv_reader.specs.Reading.{Read, is_kind, is_some, name_of, is_name}
+use Rattle.sv_reader.proofs.KindLaws.{token_of, kind_is, kind_same}
+use Rattle.sv_reader.proofs.PartLaws.{name_is, name_next}
+use Rattle.sv_reader.proofs.PartLaws as parts
+use Rattle.sv_reader.proofs.AnswerLaws.{same_read}
+use Rattle.sv_reader.proofs.ReadLaws.{Took}
 use Rattle.sv_workload.specs.declared.written.Row.{Row}
 use Rattle.sv_workload.specs.Elements.{Refusals, Begins, IsMisplaced, Among, IsFirst, AreNone}
 use Rattle.sv_workload.specs.Grammar.{many, row, init_head, init_part, Plain}
@@ -25,7 +26,8 @@ use Rattle.sv_workload.specs.InitRefused.{BeginsName, BeginsRow, RowRefused, Mis
 use Rattle.sv_workload.specs.Reading.{settled, at_front, row_code, table_meant, row_at, row_from, rows_from, begins_init, init_from}
 use Rattle.sv_workload.specs.Rows.{init_row}
 use Rattle.sv_workload.proofs.JudgeLaws.{Alike, Judged, judged_map}
-use Rattle.sv_workload.proofs.LoopLaws.{Element, Elements, Steps, keep, judged_loop}
+use Rattle.sv_reader.specs.Reading.{keep}
+use Rattle.sv_workload.proofs.LoopLaws.{Element, Elements, Steps, judged_loop}
 use Rattle.sv_workload.proofs.MarkLaws.{FirstMark, Marks, Standing, Mark, Misplaced, judged_marked}
 use Rattle.sv_workload.proofs.RowLaws.{Wrong, Nameless, Misfit, Again, Crowd, Lowest, Tells, tells, both_true, true_both}
 use Rattle.sv_workload.proofs.ValueLaws.{row_law}
@@ -161,7 +163,7 @@ module _ (schema : List Declaration) where
       by_front [] is w = absurd (row_some r is)
       by_front (x ∷ front) is w = omega (arith, ap length w, length-append front rest)
 
-      by_mark : (mark : Option Fault) → settled mark (row_at tokens) ≡ Ok (r, rest) → length rest < length tokens
+      by_mark : (mark : Option ReadFault) → settled mark (row_at tokens) ≡ Ok (r, rest) → length rest < length tokens
       by_mark (Some fault) e = absurd cc
       by_mark None e = let took = row_law.took tokens r rest e in by_front took.front took.is took.whole
 

@@ -4,9 +4,9 @@ use Rattle.std.proofs.lemmas.List.{length-append}
 use Rattle.sv_lex.specs.declared.tokens.Token.{Token}
 use Rattle.sv_app.specs.declared.refusals.Code.{Code}
 use Rattle.sv_app.specs.Codes.{number_of}
-use Rattle.sv_schema_reader.specs.declared.faults.Fault.{Fault}
-use Rattle.sv_schema_reader.specs.Reading.{Read, ◌>>=◌, turns_from, turns_at}
-use Rattle.sv_schema_reader.proofs.ReadLaws.{Bound, bound, bound_err, then_ok, then_err, same_read}
+use Rattle.sv_reader.specs.declared.faults.ReadFault.{ReadFault}
+use Rattle.sv_reader.specs.Reading.{Read, ◌>>=◌, turns_from, turns_at}
+use Rattle.sv_reader.proofs.AnswerLaws.{Bound, bound, bound_err, then_ok, then_err, same_read}
 use Rattle.sv_workload.specs.Elements.{Refusals, Among, Here, Behind, IsFirst, AreNone}
 use Rattle.sv_workload.specs.Grammar.{many}
 
@@ -15,7 +15,7 @@ abbrev pub Language : Type 0 → Type 1
 Language A = A → List Token → Type 0
 
 -- a fault is the first refusal, and stands before the end of what is there as a whole
-pub record Found {A : Type 0} (L : Language A) (R : Refusals) (fault : Fault) : Type 0 where
+pub record Found {A : Type 0} (L : Language A) (R : Refusals) (fault : ReadFault) : Type 0 where
   pub here : List Token
   pub first : IsFirst R fault.code here
   pub place : fault.left ≡ length here
@@ -29,7 +29,7 @@ pub record Alike {A : Type 0} (a b : A) (r s : List Token) : Type 0 where
 pub record Judged {A : Type 0} (L : Language A) (R : Refusals) (tokens : List Token) (read : Read A) : Type 0 where
   pub took : (a : A) (rest : List Token) → read ≡ Ok (a, rest) → L a rest
   pub right : (a : A) (rest : List Token) → read ≡ Ok (a, rest) → AreNone R
-  pub wrong : (fault : Fault) → read ≡ Err fault → Found L R fault
+  pub wrong : (fault : ReadFault) → read ≡ Err fault → Found L R fault
   pub unique : (a b : A) (r s : List Token) → L a r → L b s → Alike a b r s
   pub within : (code : Code) (here : List Token) → R code here → length here ≤ length tokens
   pub shorter : (a : A) (rest : List Token) → L a rest → length rest ≤ length tokens
@@ -92,7 +92,7 @@ judged_then {A} {B} {P} {RP} {Q} {RQ} {tokens} {p} q first second = record { too
             let was = first.took x.item x.rest x.is in
             (second x.item x.rest was).right b rest x.left code here (carried a x.item m x.rest (λ y l. RQ y l code here) is was r)
 
-    wrong : (fault : Fault) → p >>= q ≡ Err fault → Found (Both P Q) (Either P RP RQ) fault
+    wrong : (fault : ReadFault) → p >>= q ≡ Err fault → Found (Both P Q) (Either P RP RQ) fault
     wrong fault e = by_bound (bound_err p q fault e)
       where
         by_bound : (p ≡ Err fault) ⊎ Bound p q (Err fault) → Found (Both P Q) (Either P RP RQ) fault

@@ -8,8 +8,8 @@ use Rattle.sv_app.specs.declared.refusals.Code.TheVariants.{Syntax, Unknown, Twi
 use Rattle.sv_app.specs.Codes.{number_of}
 use Rattle.sv_app.specs.Schema.{Declaration}
 use Rattle.sv_app.specs.Trees.{Transaction}
-use Rattle.sv_schema_reader.specs.declared.faults.Fault.{Fault}
-use Rattle.sv_schema_reader.specs.Grammar.{◌·◌, word}
+use Rattle.sv_reader.specs.declared.faults.ReadFault.{ReadFault}
+use Rattle.sv_reader.specs.Grammar.{◌·◌, word}
 use Rattle.sv_workload.specs.declared.written.PartHead.{PartHead}
 use Rattle.sv_workload.specs.declared.written.PartHead.TheVariants.{Replay as ReplayHead, Run as RunHead}
 use Rattle.sv_workload.specs.declared.written.Setting.{Setting}
@@ -149,12 +149,12 @@ module _ (schema : List Declaration) (txns : List Transaction) (count : ℕ) (to
   pub siteless : (head : PartHead) (settings : List (Setting × ℕ)) (rest : List Token) → Through head settings rest → last.given Sites settings ≡ None → FrontRefused count tokens Syntax rest
   siteless head settings rest t e = InSecond head t.middle t.head_is (InSecond (state settings) rest t.settings_are (record { none = e; syntax = refl; place = refl }))
 
-  pub record LastFound (fault : Fault) : Type 0 where
+  pub record LastFound (fault : ReadFault) : Type 0 where
     pub here : List Token
     pub first : IsFirst (LastRefused schema txns count tokens) fault.code here
     pub place : fault.left ≡ length here
 
-  pub front_wrong : tokens ≢ [] → (fault : Fault) → front_from count tokens ≡ Err fault → LastFound fault
+  pub front_wrong : tokens ≢ [] → (fault : ReadFault) → front_from count tokens ≡ Err fault → LastFound fault
   front_wrong some fault e = by_found ((front_judged count tokens).wrong fault e)
     where
       by_found : Found (FrontIs count tokens) (FrontRefused count tokens) fault → LastFound fault

@@ -8,7 +8,7 @@ use Rattle.sv_app.specs.declared.refusals.Refusal.{Refusal}
 use Rattle.sv_app.specs.declared.requests.InitRow.{InitRow}
 use Rattle.sv_app.specs.Schema.{Declaration}
 use Rattle.sv_app.specs.Trees.{Transaction}
-use Rattle.sv_schema_reader.specs.Refused.{spot_of}
+use Rattle.sv_reader.specs.Places.{spot_of}
 use Rattle.sv_workload.specs.declared.parts.Parts.{Parts}
 use Rattle.sv_workload.specs.declared.parts.Work.{Work}
 use Rattle.sv_workload.specs.declared.written.Given.{Given}

@@ -28,5 +28,6 @@ pub mod CallMarkLaws
 pub mod CallTurnLaws
 pub mod LongTurnLaws
 pub mod NumberMarkLaws
+pub mod OnceLaws
 pub mod LineMarkLaws
 pub mod LineTurnLaws

@@ -6,12 +6,13 @@ use Rattle.sv_lex.specs.declared.tokens.Token.{Token}
 use Rattle.sv_lex.specs.declared.tokens.TokenKind.{TokenKind}
 use Rattle.sv_lex.specs.declared.tokens.TokenKind.TheVariants.{Name, Number, Text, Mark}
 use Rattle.sv_app.specs.declared.apps.Ident.{Ident}
-use Rattle.sv_schema_reader.specs.Grammar.{Both, ◌·◌, kind, word, mark, name}
-use Rattle.sv_schema_reader.specs.Reading.{Read, ◌>>=◌, by_word, token_at, name_at}
-use Rattle.sv_schema_reader.proofs.KindLaws.{token_of}
-use Rattle.sv_schema_reader.proofs.MadeLaws.{Made, take_last, take_plain, skip_last}
-use Rattle.sv_schema_reader.proofs.PartLaws.{name_law}
-use Rattle.sv_schema_reader.proofs.ReadLaws.{Plain, anything, Means, leaf, Then, follow, same_plain}
+use Rattle.sv_reader.specs.Grammar.{Both, ◌·◌, kind, word, mark, name}
+use Rattle.sv_reader.specs.Reading.{Read, ◌>>=◌, by_word, token_at, name_at}
+use Rattle.sv_reader.proofs.KindLaws.{token_of}
+use Rattle.sv_reader.proofs.MadeLaws.{Made, take_last, take_plain, skip_last}
+use Rattle.sv_reader.proofs.PartLaws.{name_law}
+use Rattle.sv_reader.proofs.AnswerLaws.{anything}
+use Rattle.sv_reader.proofs.ReadLaws.{Plain, Means, leaf, Then, follow, same_plain}
 use Rattle.sv_workload.specs.declared.written.Call.{Call}
 use Rattle.sv_workload.specs.declared.written.Color.{Color}
 use Rattle.sv_workload.specs.declared.written.Color.TheVariants as colors
@@ -22,6 +23,7 @@ use Rattle.sv_workload.specs.Reading.{verb_named, verb_of, color_named, color_of
 use Rattle.sv_workload.specs.Written.{Sent, Blue, Red, Line, Ask, Order, Deliver, Settle, Catch, Show, Cut}
 use Rattle.sv_workload.proofs.CallLaws.{call_law}
 use Rattle.sv_workload.proofs.SettingLaws.{count_law}
+use Rattle.sv_reader.proofs.MatterLaws.{bare}
 
 chosen : {A : Type 0} (written wanted : List ℕ) (a : A) (others : Option A) (x : A) (P : A → Type 0) → (written ≡ wanted → P a) → (others ≡ Some x → P x)
     → (if bytes_eq written wanted then Some a else others) ≡ Some x → P x
@@ -40,8 +42,8 @@ named meaning spelled back (Mark m) a e = absurd cc
 
 -- a word that means something
 spelled_law : {A : Type 0} (meaning : List ℕ → Option A) (spelled : A → List ℕ) (sample : A) → ((bytes : List ℕ) (a : A) → meaning bytes ≡ Some a → bytes ≡ spelled a) → ((a : A) → meaning (spelled a) ≡ Some a)
-    → Plain anything (λ a. word (spelled a)) (token_at (λ token. by_word meaning token.kind))
-spelled_law {A} meaning spelled sample back there = same_plain (leaf anything (λ token. by_word meaning token.kind) (token_of (Name (spelled sample))) sample (there sample))
+    → Plain bare anything (λ a. word (spelled a)) (token_at (λ token. by_word meaning token.kind))
+spelled_law {A} meaning spelled sample back there = same_plain (leaf bare anything (λ token. by_word meaning token.kind) (token_of (Name (spelled sample))) sample (there sample))
     (λ a l m. record { token = m.token; only = m.only; holds = named meaning spelled back m.token.kind a m.holds })
     (λ a l w. record { token = w.token; only = w.only; holds = ap (by_word meaning) w.holds ∙ there a })
 
@@ -92,7 +94,7 @@ abbrev Packet : Color → Sent → List Token → Type 0
 Packet colors.Blue = Made (λ (x : ℕ × ℕ). Blue x.0 x.1) (λ x. number x.0 · number x.1)
 Packet colors.Red = Made Red number
 
-packet_tail_law : (c : Color) → Plain anything (Packet c) (packet_tail c)
+packet_tail_law : (c : Color) → Plain bare anything (Packet c) (packet_tail c)
 packet_tail_law colors.Blue = take_plain Blue count_law (λ site. take_last (Blue site) count_law)
 packet_tail_law colors.Red = take_last Red count_law
 
@@ -110,15 +112,15 @@ packet_split (Red slot) l is = record {
   parts = record { front = is.front; back = is.back; whole = is.whole; first = is.first; then = record { «from» = slot; is = is.then; made = refl } };
 }
 
-pub packet_law : Plain anything packet packet_at
+pub packet_law : Plain bare anything packet packet_at
 unfolding packet_at
 packet_law = same_plain (follow (spelled_law color_named color_word colors.Red color_back color_there) packet_tail_law)
     (λ sent l t. subst (λ x. packet sent x) (sym t.parts.whole) (packet_join t.head sent t.parts.front t.parts.back t.parts.first t.parts.then)) packet_split
 
 -- steps
 
-one_closed : {A : Type 0} {P : A → List Token → Type 0} {p : List Token → Read A} (f : A → Line) → Plain anything P p → Plain anything (Made f (λ a. P a · mark Semi)) (λ tokens. p tokens >>= λ a r. closing (f a) r)
-one_closed {A} {P} {p} f law = same_plain (take_plain (λ a (last : Unit {0}). f a) law (λ a. skip_last anything (Mark Semi) (f a)))
+one_closed : {A : Type 0} {P : A → List Token → Type 0} {p : List Token → Read A} (f : A → Line) → Plain bare anything P p → Plain bare anything (Made f (λ a. P a · mark Semi)) (λ tokens. p tokens >>= λ a r. closing (f a) r)
+one_closed {A} {P} {p} f law = same_plain (take_plain (λ a (last : Unit {0}). f a) law (λ a. skip_last bare anything (Mark Semi) (f a)))
     (λ l tokens m. record { «from» = m.«from».0; is = m.is; made = m.made }) (λ l tokens m. record { «from» = (m.«from», tt); is = m.is; made = m.made })
 
 abbrev pub Tail : Verb → ℕ → Line → List Token → Type 0
@@ -130,14 +132,14 @@ Tail verbs.Catch n = Made (λ (_ : Unit {0}). Catch n) (λ _. mark Semi)
 Tail verbs.Show n = Made (λ table. Show n table) (λ table. name table · mark Semi)
 Tail verbs.Cut n = Made (λ (_ : Unit {0}). Cut n) (λ _. mark Semi)
 
-pub tail_law : (v : Verb) (n : ℕ) → Plain anything (Tail v n) (line_tail v n)
+pub tail_law : (v : Verb) (n : ℕ) → Plain bare anything (Tail v n) (line_tail v n)
 tail_law verbs.Ask n = one_closed (λ c. Ask n c) call_law
-tail_law verbs.Order n = skip_last anything (Mark Semi) (Order n)
+tail_law verbs.Order n = skip_last bare anything (Mark Semi) (Order n)
 tail_law verbs.Deliver n = one_closed (λ sent. Deliver n sent) packet_law
-tail_law verbs.Settle n = skip_last anything (Mark Semi) (Settle n)
-tail_law verbs.Catch n = skip_last anything (Mark Semi) (Catch n)
-tail_law verbs.Show n = one_closed (λ table. Show n table) (name_law anything)
-tail_law verbs.Cut n = skip_last anything (Mark Semi) (Cut n)
+tail_law verbs.Settle n = skip_last bare anything (Mark Semi) (Settle n)
+tail_law verbs.Catch n = skip_last bare anything (Mark Semi) (Catch n)
+tail_law verbs.Show n = one_closed (λ table. Show n table) (name_law bare anything)
+tail_law verbs.Cut n = skip_last bare anything (Mark Semi) (Cut n)
 
 abbrev Numbered : Verb → Line → List Token → Type 0
 Numbered v = Then number (λ n. Tail v n)
@@ -179,7 +181,7 @@ line_split (Catch n) tokens is = numbered_split verbs.Catch n (Catch n) (mark Se
 line_split (Show n table) tokens is = numbered_split verbs.Show n (Show n table) (λ l. (name table · mark Semi) l) tokens (λ back t. record { «from» = table; is = t; made = refl }) is
 line_split (Cut n) tokens is = numbered_split verbs.Cut n (Cut n) (mark Semi) tokens (λ back t. record { «from» = tt; is = t; made = refl }) is
 
-pub line_law : Plain anything line line_at
+pub line_law : Plain bare anything line line_at
 unfolding line_at
 line_law = same_plain (follow (spelled_law verb_named verb_word verbs.Cut verb_back verb_there) (λ v. follow count_law (λ n. tail_law v n)))
     (λ l tokens t. subst (λ x. line l x) (sym (t.parts.whole ∙ ap (λ x. t.parts.front ++ x) t.parts.then.parts.whole))

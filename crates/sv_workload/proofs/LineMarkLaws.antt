@@ -12,12 +12,13 @@ use Rattle.sv_app.specs.declared.refusals.Code.TheVariants as codes_of
 use Rattle.sv_app.specs.Lookups.{table_of}
 use Rattle.sv_app.specs.Schema.{Declaration}
 use Rattle.sv_app.specs.Trees.{Transaction}
-use Rattle.sv_schema_reader.specs.declared.faults.Fault.{Fault}
-use Rattle.sv_schema_reader.specs.Grammar.{Both, ◌·◌, kind, word, mark, name}
-use Rattle.sv_schema_reader.specs.Reading.{Read, given}
-use Rattle.sv_schema_reader.proofs.KindLaws.{token_of}
-use Rattle.sv_schema_reader.proofs.MadeLaws.{Made}
-use Rattle.sv_schema_reader.proofs.ReadLaws.{Start, same_read}
+use Rattle.sv_reader.specs.declared.faults.ReadFault.{ReadFault}
+use Rattle.sv_reader.specs.Grammar.{Both, ◌·◌, kind, word, mark, name}
+use Rattle.sv_reader.specs.Reading.{Read, given}
+use Rattle.sv_reader.proofs.KindLaws.{token_of}
+use Rattle.sv_reader.proofs.MadeLaws.{Made}
+use Rattle.sv_reader.proofs.AnswerLaws.{same_read}
+use Rattle.sv_reader.proofs.ReadLaws.{Start}
 use Rattle.sv_workload.specs.declared.lines.Steps.{Steps}
 use Rattle.sv_workload.specs.declared.written.Color.{Color}
 use Rattle.sv_workload.specs.declared.written.Color.TheVariants as colors
@@ -243,7 +244,7 @@ module _ (schema : List Declaration) (txns : List Transaction) where
         (behind_marks line (token ∷ others) (token ∷ []) others (TailRefused v) (λ rest. tail_mark schema txns sites v rest) refl (λ found n rest k. tail_marks token found v n rest w k))
         order
       where
-        order : (fault : Fault) → out_mark codes_of.BadStep 1 (most_number sites v) others ≡ Some fault → (code : Code) (here : List Token) → BehindNumber (TailRefused v) others code here → Before fault code here
+        order : (fault : ReadFault) → out_mark codes_of.BadStep 1 (most_number sites v) others ≡ Some fault → (code : Code) (here : List Token) → BehindNumber (TailRefused v) others code here → Before fault code here
         order fault e code here is =
             let lt = number_less is.n others is.front is.rest is.whole is.is in let le = tail_within v is.rest code here is.refused in
             let place = out_place codes_of.BadStep 1 (most_number sites v) others fault e in
@@ -260,13 +261,13 @@ module _ (schema : List Declaration) (txns : List Transaction) where
           (place_marks line (token ∷ others) [] token others codes_of.Many (Crowded before v) (is_full (state before) v) refl (word_begins token v w) (full_crowded before v) (crowded_full before v))
           (number_marks token others v w) order
         where
-          order : (fault : Fault) → full_mark (state before) v (token ∷ others) ≡ Some fault → (code : Code) (here : List Token) → NumberRefused v others code here → Before fault code here
+          order : (fault : ReadFault) → full_mark (state before) v (token ∷ others) ≡ Some fault → (code : Code) (here : List Token) → NumberRefused v others code here → Before fault code here
           order fault e code here is = by_full (is_full (state before) v) e
             where
               by_full : (b : Bool) → given b (record { code = codes_of.Many; left = length (token ∷ others) }) ≡ Some fault → Before fault code here
               by_full false e = absurd cc
               by_full true e = let same : record { code = codes_of.Many; left = length (token ∷ others) } ≡ fault = cc in let le = number_within v others code here is in
-                  inl (omega (arith, le, ap (λ (f : Fault). f.left) same))
+                  inl (omega (arith, le, ap (λ (f : ReadFault). f.left) same))
 
       -- a refusal of a step, sorted by the word of the step
       data Sorted (token : Token) (others : List Token) (code : Code) (here : List Token) : Type 0 where
@@ -471,7 +472,7 @@ module _ (schema : List Declaration) (txns : List Transaction) where
         by_front [] is w = absurd (line_some l is)
         by_front (x ∷ front) is w = omega (arith, ap length w, length-append front rest)
 
-        by_mark : (mark : Option Fault) → settled mark (line_at tokens) ≡ Ok (l, rest) → length rest < length tokens
+        by_mark : (mark : Option ReadFault) → settled mark (line_at tokens) ≡ Ok (l, rest) → length rest < length tokens
         by_mark (Some fault) e = absurd cc
         by_mark None e = let took = line_law.took tokens l rest e in by_front took.front took.is took.whole
 

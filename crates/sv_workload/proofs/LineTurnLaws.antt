@@ -8,10 +8,10 @@ use Rattle.sv_app.specs.declared.refusals.Code.{Code}
 use Rattle.sv_app.specs.declared.refusals.Code.TheVariants.{BadStep}
 use Rattle.sv_app.specs.Schema.{Declaration}
 use Rattle.sv_app.specs.Trees.{Transaction}
-use Rattle.sv_schema_reader.specs.declared.faults.Fault.{Fault}
-use Rattle.sv_schema_reader.specs.Grammar.{◌·◌, word, mark}
-use Rattle.sv_schema_reader.specs.Reading.{Read, given}
-use Rattle.sv_schema_reader.proofs.ReadLaws.{Took}
+use Rattle.sv_reader.specs.declared.faults.ReadFault.{ReadFault}
+use Rattle.sv_reader.specs.Grammar.{◌·◌, word, mark}
+use Rattle.sv_reader.specs.Reading.{Read, given}
+use Rattle.sv_reader.proofs.ReadLaws.{Took}
 use Rattle.sv_workload.specs.declared.lines.PlainStep.{PlainStep}
 use Rattle.sv_workload.specs.declared.lines.Steps.{Steps}
 use Rattle.sv_workload.specs.declared.parts.Step.{Step}
@@ -42,7 +42,7 @@ pub lines_less : (schema : List Declaration) (txns : List Transaction) (sites : 
     → is_more tokens ≡ true → as_item (step_of schema txns) (line_from schema txns sites s tokens) ≡ Ok (step, rest) → length rest < length tokens
 lines_less schema txns sites s tokens step rest t e = let b = before (step_of schema txns) (line_from schema txns sites s tokens) step rest e in line_shrinks schema txns sites s tokens b.item rest t b.is
 
-pub lines_err : (schema : List Declaration) (txns : List Transaction) (sites : ℕ) (s : Steps) (tokens : List Token) (f : Fault)
+pub lines_err : (schema : List Declaration) (txns : List Transaction) (sites : ℕ) (s : Steps) (tokens : List Token) (f : ReadFault)
     → is_more tokens ≡ true → as_item (step_of schema txns) (line_from schema txns sites s tokens) ≡ Err f → lines_from schema txns sites s tokens ≡ Err f
 lines_err schema txns sites s tokens f t e = fault (line_steps schema txns sites) s tokens f t (before_err (step_of schema txns) (line_from schema txns sites s tokens) f e)
 
@@ -88,7 +88,7 @@ both_false : (a b : Bool) → a || b ≡ false → (a ≡ false) × (b ≡ false
 both_false true b e = absurd cc
 both_false false b e = (refl, e)
 
-abbrev place_fault : Code → List Token → Fault
+abbrev place_fault : Code → List Token → ReadFault
 place_fault wanted tokens = record { code = wanted; left = length tokens }
 
 in_bounds : (wanted : Code) (least most n : ℕ) (tokens front rest : List Token) → out_mark wanted least most tokens ≡ None → tokens ≡ front ++ rest → number n front → (least ≤ n) × (n ≤ most)
@@ -106,7 +106,7 @@ in_bounds wanted least most n tokens front rest e w is = by_tests (both_false (n
     by_tests : (nat_lt n least ≡ false) × (nat_lt most n ≡ false) → (least ≤ n) × (n ≤ most)
     by_tests t = (not_less n least t.0, not_less most n t.1)
 
-behind_count : (n : ℕ) (tokens front rest : List Token) (next : List Token → Option Fault) → tokens ≡ front ++ rest → number n front → from_read (count_at tokens) next ≡ None → next rest ≡ None
+behind_count : (n : ℕ) (tokens front rest : List Token) (next : List Token → Option ReadFault) → tokens ≡ front ++ rest → number n front → from_read (count_at tokens) next ≡ None → next rest ≡ None
 behind_count n tokens front rest next w is e = ap (λ (r : Read ℕ). from_read r next) (sym (ap count_at w ∙ count_law.reads n front rest is refl)) ∙ e
 
 packet_bounded : (sites : ℕ) (sent : Sent) (tokens front rest : List Token) → sites ≤ 8 → packet_mark sites tokens ≡ None → tokens ≡ front ++ rest → packet sent front → IsBoundedPacket sent

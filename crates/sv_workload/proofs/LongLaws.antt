@@ -7,13 +7,14 @@ use Rattle.sv_lex.specs.declared.tokens.TokenKind.{TokenKind}
 use Rattle.sv_lex.specs.declared.tokens.TokenKind.TheVariants.{Name, Number, Text, Mark}
 use Rattle.sv_app.specs.declared.requests.Arg.{Arg}
 use Rattle.sv_app.specs.declared.requests.Arg.TheVariants as args
-use Rattle.sv_schema_reader.specs.declared.faults.Fault.{Fault}
-use Rattle.sv_schema_reader.specs.Grammar.{Both, ◌·◌, kind, mark, others, separated}
-use Rattle.sv_schema_reader.specs.Reading.{Read, ◌>>=◌, is_kind, is_next, next, is_some, given, kind_at}
-use Rattle.sv_schema_reader.proofs.KindLaws.{token_of, kind_is, kind_same}
-use Rattle.sv_schema_reader.proofs.MadeLaws.{Made, take_plain, skip_last}
-use Rattle.sv_schema_reader.proofs.ReadLaws.{Plain, anything, Took, same_plain}
-use Rattle.sv_schema_reader.proofs.SideLaws.{both_assoc, assoc_both}
+use Rattle.sv_reader.specs.declared.faults.ReadFault.{ReadFault}
+use Rattle.sv_reader.specs.Grammar.{Both, ◌·◌, kind, mark, others, separated}
+use Rattle.sv_reader.specs.Reading.{Read, ◌>>=◌, is_kind, is_next, next, is_some, given, kind_at}
+use Rattle.sv_reader.proofs.KindLaws.{token_of, kind_is, kind_same}
+use Rattle.sv_reader.proofs.MadeLaws.{Made, take_plain, skip_last}
+use Rattle.sv_reader.proofs.AnswerLaws.{anything}
+use Rattle.sv_reader.proofs.ReadLaws.{Plain, Took, same_plain}
+use Rattle.sv_reader.proofs.PartLaws.{both_assoc, assoc_both}
 use Rattle.sv_workload.specs.Elements.{Begins}
 use Rattle.sv_workload.specs.Grammar.{number, listed, IsInteger, Plain as PlainInteger, Negated, argument}
 use Rattle.sv_workload.specs.LastRefused.{BeginsWith, each_comma, BeginsInteger, Sign, Plain as PlainBegins}
@@ -21,6 +22,7 @@ use Rattle.sv_workload.specs.Reading.{natural_of, integer_at, argument_at, begin
 use Rattle.sv_workload.proofs.CallLaws.{argument_law}
 use Rattle.sv_workload.proofs.MarkLaws.{past}
 use Rattle.sv_workload.proofs.ValueLaws.{integer_law, natural_is, natural_there}
+use Rattle.sv_reader.proofs.MatterLaws.{bare}
 
 -- where an integer begins, by test
 
@@ -47,8 +49,8 @@ there_integer (token ∷ rest) e = by_sign (is_kind (Mark Minus) token.kind) ref
     by_sign false s e = by_number (natural_of token.kind) refl e
 
 -- an element and a comma
-pub comma_law : {A : Type 0} {X : A → List Token → Type 0} {x : List Token → Read A} → Plain anything X x → Plain anything (λ a. X a · mark Comma) (comma_after x)
-comma_law {A} {X} {x} law = same_plain (take_plain (λ a (last : Unit {0}). a) law (λ a. skip_last anything (Mark Comma) a))
+pub comma_law : {A : Type 0} {X : A → List Token → Type 0} {x : List Token → Read A} → Plain bare anything X x → Plain bare anything (λ a. X a · mark Comma) (comma_after x)
+comma_law {A} {X} {x} law = same_plain (take_plain (λ a (last : Unit {0}). a) law (λ a. skip_last bare anything (Mark Comma) a))
     (λ a l m. subst (λ y. (X y · mark Comma) l) (sym m.made) m.is) (λ a l is. record { «from» = (a, tt); is = is; made = refl })
 
 pub taken : {A B : Type 0} (read : Read A) (more : List Token → Option B) (a : A) (rest : List Token) → read ≡ Ok (a, rest) → from_read read more ≡ more rest

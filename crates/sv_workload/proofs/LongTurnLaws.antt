@@ -5,8 +5,8 @@ use Rattle.sv_lex.specs.declared.tokens.Token.{Token}
 use Rattle.sv_app.specs.declared.apps.Ident.{Ident}
 use Rattle.sv_app.specs.declared.refusals.Code.TheVariants.{Many}
 use Rattle.sv_app.specs.declared.requests.Arg.{Arg}
-use Rattle.sv_schema_reader.specs.declared.faults.Fault.{Fault}
-use Rattle.sv_schema_reader.specs.Reading.{Read}
+use Rattle.sv_reader.specs.declared.faults.ReadFault.{ReadFault}
+use Rattle.sv_reader.specs.Reading.{Read}
 use Rattle.sv_workload.specs.Reading.{integer_at, argument_at, comma_after, from_read, long_in, list_long, long_args, long_among, left_of, opening_at, long_call, long_fault, or_else}
 use Rattle.sv_workload.proofs.CallLaws.{argument_law}
 use Rattle.sv_workload.proofs.LongLaws.{comma_law}
@@ -47,14 +47,14 @@ long_here tokens left e = by_list (list_long tokens) e
     by_list None e = absurd cc
     by_list (Some here) e = e
 
-pub long_stop : (tokens : List Token) (fault : Fault) → left_of (list_long tokens) ≡ None → comma_after argument_at tokens ≡ Err fault → left_of (long_among tokens) ≡ None
+pub long_stop : (tokens : List Token) (fault : ReadFault) → left_of (list_long tokens) ≡ None → comma_after argument_at tokens ≡ Err fault → left_of (long_among tokens) ≡ None
 unfolding long_among
 long_stop tokens fault l e = ap left_of (ap (λ o. or_else o (from_read (comma_after argument_at tokens) (λ r. long_args (length tokens) r))) (no_list tokens l)
     ∙ ap (λ (read : Read Arg). from_read read (λ r. long_args (length tokens) r)) e)
 
 found_there : (found : Option (List Token)) (left : ℕ) → left_of found ≡ Some left → long_fault found ≡ Some (record { code = Many; left = left })
 found_there None left e = absurd cc
-found_there (Some here) left e = let same : length here ≡ left = cc in ap (λ n. let f : Option Fault = Some (record { code = Many; left = n }) in f) same
+found_there (Some here) left e = let same : length here ≡ left = cc in ap (λ n. let f : Option ReadFault = Some (record { code = Many; left = n }) in f) same
 
 found_none : (found : Option (List Token)) → left_of found ≡ None → long_fault found ≡ None
 found_none None e = refl
@@ -68,7 +68,7 @@ pub fault_none : (tokens : List Token) (txn : Ident) (r : List Token) → openin
 unfolding long_call
 fault_none tokens txn r o e = ap (λ (read : Read Ident). long_fault (from_read read (λ r. long_among r))) o ∙ found_none (long_among r) e
 
-pub fault_stop : (tokens : List Token) (fault : Fault) → opening_at tokens ≡ Err fault → long_fault (long_call tokens) ≡ None
+pub fault_stop : (tokens : List Token) (fault : ReadFault) → opening_at tokens ≡ Err fault → long_fault (long_call tokens) ≡ None
 unfolding long_call
 fault_stop tokens fault o = ap (λ (read : Read Ident). long_fault (from_read read (λ r. long_among r))) o
 

@@ -3,15 +3,13 @@ use Rattle.std.proofs.Common.{◌≡◌, ◌∙◌, ℕ, zero, suc, ◌<◌, ◌
 use Rattle.std.proofs.lemmas.List.{length-append}
 use Rattle.sv_lex.specs.declared.tokens.Token.{Token}
 use Rattle.sv_app.specs.declared.refusals.Code.{Code}
-use Rattle.sv_schema_reader.specs.declared.faults.Fault.{Fault}
-use Rattle.sv_schema_reader.specs.Reading.{Read, ◌>>=◌, turns_from, turns_at}
-use Rattle.sv_schema_reader.proofs.ReadLaws.{then_ok, then_err, same_read}
+use Rattle.sv_reader.specs.declared.faults.ReadFault.{ReadFault}
+use Rattle.sv_reader.proofs.FuelLaws as fuel
+use Rattle.sv_reader.specs.Reading.{Read, ◌>>=◌, turns_at, keep}
+use Rattle.sv_reader.proofs.AnswerLaws.{then_ok, then_err, same_read}
 use Rattle.sv_workload.specs.Elements.{Refusals, Among, Here, Behind, IsFirst, AreNone}
 use Rattle.sv_workload.specs.Grammar.{many}
 use Rattle.sv_workload.proofs.JudgeLaws.{Language, Alike, Judged, judged_map, Both, Either, InFirst, InSecond, judged_then}
-
-abbrev pub keep : {S : Type 0} → S → List Token → Read S
-keep s tokens = Ok (s, tokens)
 
 -- an element at the front of these tokens
 pub record Element {A : Type 0} (element : A → List Token → Type 0) (tokens : List Token) (a : A) (rest : List Token) : Type 0 where
@@ -52,44 +50,13 @@ module _ {S A : Type 0} {test : List Token → Bool} {read : S → List Token �
       by_read (Err fault) f e = absurd cc
       by_read (Ok (a, r)) f e = let same = same_read e in subst (λ x. length x < length tokens) same.rests (law.shrinks s tokens a r t f)
 
-  fuel_same : (n k : ℕ) (s : S) (tokens : List Token) → length tokens < n → length tokens < k → turns_from test turn keep n s tokens ≡ turns_from test turn keep k s tokens
-  unfolding turns_from
-  fuel_same zero k s tokens ln lk = absurd (omega (arith, ln))
-  fuel_same (suc n) zero s tokens ln lk = absurd (omega (arith, lk))
-  fuel_same (suc n) (suc k) s tokens ln lk = by_test (λ m rest a b. fuel_same n k m rest a b) (test tokens) refl
-    where
-      next : (found : Read S) → ((m : S) (rest : List Token) → found ≡ Ok (m, rest) → turns_from test turn keep n m rest ≡ turns_from test turn keep k m rest)
-          → (found >>= λ m rest. turns_from test turn keep n m rest) ≡ (found >>= λ m rest. turns_from test turn keep k m rest)
-      next (Err fault) same = refl
-      next (Ok (m, rest)) same = same m rest refl
-
-      by_turn : ((m : S) (rest : List Token) → length rest < n → length rest < k → turns_from test turn keep n m rest ≡ turns_from test turn keep k m rest)
-          → test tokens ≡ true → (m : S) (rest : List Token) → turn s tokens ≡ Ok (m, rest) → turns_from test turn keep n m rest ≡ turns_from test turn keep k m rest
-      by_turn more t m rest e = let lt = less s tokens m rest t e in more m rest (omega (arith, lt, ln)) (omega (arith, lt, lk))
-
-      by_test : ((m : S) (rest : List Token) → length rest < n → length rest < k → turns_from test turn keep n m rest ≡ turns_from test turn keep k m rest) → (b : Bool) → test tokens ≡ b
-          → cond b (turn s tokens >>= λ m rest. turns_from test turn keep n m rest) (keep s tokens) ≡ cond b (turn s tokens >>= λ m rest. turns_from test turn keep k m rest) (keep s tokens)
-      by_test more false t = refl
-      by_test more true t = next (turn s tokens) (by_turn more t)
-
   pub unrolled : (s : S) (tokens : List Token) → loop s tokens ≡ (if test tokens then (turn s tokens >>= λ m rest. loop m rest) else keep s tokens)
-  unfolding turns_from
-  unrolled s tokens = by_test (test tokens) refl
-    where
-      next : (found : Read S) → ((m : S) (rest : List Token) → found ≡ Ok (m, rest) → turns_from test turn keep (length tokens) m rest ≡ loop m rest)
-          → (found >>= λ m rest. turns_from test turn keep (length tokens) m rest) ≡ (found >>= λ m rest. loop m rest)
-      next (Err fault) same = refl
-      next (Ok (m, rest)) same = same m rest refl
-
-      by_test : (b : Bool) → test tokens ≡ b
-          → cond b (turn s tokens >>= λ m rest. turns_from test turn keep (length tokens) m rest) (keep s tokens) ≡ cond b (turn s tokens >>= λ m rest. loop m rest) (keep s tokens)
-      by_test false t = refl
-      by_test true t = next (turn s tokens) (λ m rest e. fuel_same (length tokens) (suc (length rest)) m rest (less s tokens m rest t e) (omega arith))
+  unrolled s tokens = fuel.unrolled test turn keep less s tokens
 
   pub more : (s : S) (tokens : List Token) (a : A) (rest : List Token) → test tokens ≡ true → read s tokens ≡ Ok (a, rest) → loop s tokens ≡ loop (add s a) rest
   more s tokens a rest t e = unrolled s tokens ∙ ap (λ b. cond b (turn s tokens >>= λ m rest. loop m rest) (keep s tokens)) t ∙ ap (λ (found : Read A). (found >>= λ a r. Ok (add s a, r)) >>= λ m rest. loop m rest) e
 
-  pub fault : (s : S) (tokens : List Token) (f : Fault) → test tokens ≡ true → read s tokens ≡ Err f → loop s tokens ≡ Err f
+  pub fault : (s : S) (tokens : List Token) (f : ReadFault) → test tokens ≡ true → read s tokens ≡ Err f → loop s tokens ≡ Err f
   fault s tokens f t e = unrolled s tokens ∙ ap (λ b. cond b (turn s tokens >>= λ m rest. loop m rest) (keep s tokens)) t ∙ ap (λ (found : Read A). (found >>= λ a r. Ok (add s a, r)) >>= λ m rest. loop m rest) e
 
   pub end : (s : S) (tokens : List Token) → test tokens ≡ false → loop s tokens ≡ Ok (s, tokens)

@@ -5,20 +5,23 @@ use Rattle.sv_lex.specs.declared.marks.Mark.TheVariants.{Comma}
 use Rattle.sv_lex.specs.declared.tokens.Token.{Token}
 use Rattle.sv_lex.specs.declared.tokens.TokenKind.{TokenKind}
 use Rattle.sv_lex.specs.declared.tokens.TokenKind.TheVariants.{Mark}
-use Rattle.sv_schema_reader.specs.declared.faults.Fault.{Fault}
-use Rattle.sv_schema_reader.specs.Grammar.{Both, ◌·◌, nothing, kind, mark, others, separated}
-use Rattle.sv_schema_reader.specs.Reading.{Read, ◌>>=◌, is_kind, is_next, kind_at}
-use Rattle.sv_schema_reader.proofs.KindLaws.{kind_same}
-use Rattle.sv_schema_reader.proofs.MadeLaws.{Made, both_map, take_last, skip_plain, skip_last}
-use Rattle.sv_schema_reader.proofs.PartLaws.{next_alike, kind_next}
-use Rattle.sv_schema_reader.proofs.ReadLaws.{Stuck, Plain, anything, Then, then_parts, Either, Left, Right, either, same_plain, after, then_ok, then_err}
-use Rattle.sv_schema_reader.proofs.SideLaws.{only_first, both_assoc, assoc_both}
-use Rattle.sv_schema_reader.proofs.TurnLaws.{Words, Last, More, TurnStuck, TurnOver, Turning, turns_law, turn_read, turn_err, end_read, shorter}
+use Rattle.sv_reader.specs.declared.faults.ReadFault.{ReadFault}
+use Rattle.sv_reader.specs.Grammar.{Both, ◌·◌, nothing, kind, mark, others, separated}
+use Rattle.sv_reader.specs.Reading.{Read, ◌>>=◌, is_kind, is_next, kind_at}
+use Rattle.sv_reader.proofs.KindLaws.{kind_same}
+use Rattle.sv_reader.proofs.MadeLaws.{Made, both_map, take_last, skip_plain, skip_last}
+use Rattle.sv_reader.proofs.AnswerLaws.{next_alike}
+use Rattle.sv_reader.proofs.PartLaws.{kind_next}
+use Rattle.sv_reader.proofs.AnswerLaws.{anything, then_ok, then_err}
+use Rattle.sv_reader.proofs.ReadLaws.{Stuck, Plain, Then, then_parts, Either, Left, Right, either, same_plain, after}
+use Rattle.sv_reader.proofs.PartLaws.{only_first, both_assoc, assoc_both}
+use Rattle.sv_reader.proofs.TurnLaws.{Words, Last, More, TurnStuck, TurnOver, Turning, turns_law, turn_read, turn_err, end_read, shorter}
 use Rattle.sv_workload.specs.Grammar.{listed}
 use Rattle.sv_workload.specs.Reading.{more_to, listed_to}
 use Rattle.sv_workload.proofs.ElementLaws.{plain_of}
+use Rattle.sv_reader.proofs.MatterLaws.{bare}
 
-module _ {A : Type 0} {X : A → List Token → Type 0} {x : List Token → Read A} (close : TokenKind) (law : Plain anything X x)
+module _ {A : Type 0} {X : A → List Token → Type 0} {x : List Token → Read A} (close : TokenKind) (law : Plain bare anything X x)
     (apart : is_kind (Mark Comma) close ≡ false) (closed : (a : A) (front rest : List Token) → X a front → is_next close (front ++ rest) ≡ false) where
   abbrev CommaX : A → List Token → Type 0
   CommaX a = mark Comma · X a
@@ -26,10 +29,10 @@ module _ {A : Type 0} {X : A → List Token → Type 0} {x : List Token → Read
   abbrev comma_x : List Token → Read A
   comma_x tokens = kind_at (Mark Comma) tokens >>= λ _ r. x r
 
-  itself : Plain anything (Made (λ (a : A). a) X) x
+  itself : Plain bare anything (Made (λ (a : A). a) X) x
   itself = same_plain law (λ a l is. record { «from» = a; is = is; made = refl }) (λ a l m. subst (λ y. X y l) (sym m.made) m.is)
 
-  comma_law : Plain anything CommaX comma_x
+  comma_law : Plain bare anything CommaX comma_x
   comma_law = same_plain (skip_plain (Mark Comma) (λ (a : A). a) itself) (λ a l m. subst (λ y. CommaX y l) (sym m.made) m.is) (λ a l is. record { «from» = a; is = is; made = refl })
 
   abbrev add : List A → A → List A
@@ -38,14 +41,14 @@ module _ {A : Type 0} {X : A → List Token → Type 0} {x : List Token → Read
   abbrev Added : List A → List A → List Token → Type 0
   Added s = Made (add s) CommaX
 
-  added : (s : List A) → Plain anything (Added s) (λ tokens. comma_x tokens >>= λ a r. Ok (add s a, r))
+  added : (s : List A) → Plain bare anything (Added s) (λ tokens. comma_x tokens >>= λ a r. Ok (add s a, r))
   added s = take_last (add s) comma_law
 
   comma_some : (a : A) (l : List Token) → CommaX a l → l ≡ [] → ⊥
   comma_some a l is e = let bad : [] ≡ is.first.token ∷ is.back = sym e ∙ is.whole ∙ ap (λ y. y ++ is.back) is.first.only in absurd cc
 
-  turn_fails : (s : List A) (tokens : List Token) (fault : Fault) → Stuck (Added s) (Added s) (λ tokens. comma_x tokens >>= λ a r. Ok (add s a, r)) tokens fault ⊎ ⊥
-      → TurnStuck (Added s) (Added s) (λ tokens. comma_x tokens >>= λ a r. Ok (add s a, r)) tokens fault ⊎ TurnOver (Added s) (Added s) (λ tokens. comma_x tokens >>= λ a r. Ok (add s a, r)) tokens fault
+  turn_fails : (s : List A) (tokens : List Token) (fault : ReadFault) → Stuck bare (Added s) (Added s) (λ tokens. comma_x tokens >>= λ a r. Ok (add s a, r)) tokens fault ⊎ ⊥
+      → TurnStuck bare (Added s) (Added s) (λ tokens. comma_x tokens >>= λ a r. Ok (add s a, r)) tokens fault ⊎ TurnOver bare (Added s) (Added s) (λ tokens. comma_x tokens >>= λ a r. Ok (add s a, r)) tokens fault
   turn_fails s tokens fault (inl stuck) = inl (record {
     front = stuck.front;
     rest = stuck.rest;
@@ -57,7 +60,7 @@ module _ {A : Type 0} {X : A → List Token → Type 0} {x : List Token → Read
   })
   turn_fails s tokens fault (inr never) = absurd never
 
-  turning : Turning anything anything (is_next (Mark Comma)) (λ s tokens. comma_x tokens >>= λ a r. Ok (add s a, r)) (λ s tokens. kind_at close tokens >>= λ _ r. Ok (s, r)) Added Added (kind close)
+  turning : Turning bare anything anything (is_next (Mark Comma)) (λ s tokens. comma_x tokens >>= λ a r. Ok (add s a, r)) (λ s tokens. kind_at close tokens >>= λ _ r. Ok (s, r)) Added Added (kind close)
   turning = record {
     alike = next_alike (λ token. is_kind (Mark Comma) token.kind);
     inside = λ s m l is. is;
@@ -67,7 +70,7 @@ module _ {A : Type 0} {X : A → List Token → Type 0} {x : List Token → Read
     all = λ s m front rest is clear. inl ((added s).reads m front rest is refl);
     first = λ s m front rest is. kind_next (Mark Comma) (X is.«from») front rest is.is;
     fails = λ s tokens fault t e. turn_fails s tokens fault ((added s).fails tokens fault e);
-    ends = λ s. skip_last anything close s;
+    ends = λ s. skip_last bare anything close s;
     stop = λ l rest is clear. only_first (Mark Comma) close l rest is ∙ apart;
     near_turn = λ s m front rest is. refl;
     near_end = λ l rest is clear. refl;
@@ -81,13 +84,13 @@ module _ {A : Type 0} {X : A → List Token → Type 0} {x : List Token → Read
   pub less_turn : (s : List A) (tokens : List Token) (a : A) (rest : List Token) → is_next (Mark Comma) tokens ≡ true → comma_x tokens ≡ Ok (a, rest) → length rest < length tokens
   less_turn s tokens a rest t e = shorter turning s tokens (add s a) rest t (then_ok (λ a r. Ok (add s a, r)) e)
 
-  pub turn_fault : (s : List A) (tokens : List Token) (fault : Fault) → is_next (Mark Comma) tokens ≡ true → comma_x tokens ≡ Err fault → more_to close x s tokens ≡ Err fault
+  pub turn_fault : (s : List A) (tokens : List Token) (fault : ReadFault) → is_next (Mark Comma) tokens ≡ true → comma_x tokens ≡ Err fault → more_to close x s tokens ≡ Err fault
   turn_fault s tokens fault t e = turn_err turning s tokens fault t (then_err (λ a r. Ok (add s a, r)) e)
 
   pub turn_close : (s : List A) (tokens : List Token) (spot : Spot) (r : List Token) → is_next (Mark Comma) tokens ≡ false → kind_at close tokens ≡ Ok (spot, r) → more_to close x s tokens ≡ Ok (s, r)
   turn_close s tokens spot r t k = end_read turning s tokens t ∙ then_ok (λ _ x. Ok (s, x)) k
 
-  pub turn_close_fault : (s : List A) (tokens : List Token) (fault : Fault) → is_next (Mark Comma) tokens ≡ false → kind_at close tokens ≡ Err fault → more_to close x s tokens ≡ Err fault
+  pub turn_close_fault : (s : List A) (tokens : List Token) (fault : ReadFault) → is_next (Mark Comma) tokens ≡ false → kind_at close tokens ≡ Err fault → more_to close x s tokens ≡ Err fault
   turn_close_fault s tokens fault t k = end_read turning s tokens t ∙ then_err (λ _ x. Ok (s, x)) k
 
   -- the elements that were added
@@ -129,7 +132,7 @@ module _ {A : Type 0} {X : A → List Token → Type 0} {x : List Token → Read
       (subst (λ y. Words Added (kind close) (s ++ a ∷ []) y (b.back ++ t.back)) (append_assoc s (a ∷ []) xs)
       (grown_words (s ++ a ∷ []) xs (b.back ++ t.back) (record { front = b.back; back = t.back; whole = refl; first = b.then; then = t.then }))))
 
-  more_law : (s : List A) → Plain anything (Grown s) (more_to close x s)
+  more_law : (s : List A) → Plain bare anything (Grown s) (more_to close x s)
   more_law s = same_plain (plain_of (turns_law turning s)) (λ e l is. words_grown s e l is)
       (λ e l g. subst (λ y. Words Added (kind close) s y l) (sym g.made) (grown_words s g.items l g.is))
 
@@ -140,9 +143,9 @@ module _ {A : Type 0} {X : A → List Token → Type 0} {x : List Token → Read
   Some = Then X (λ a. Grown (a ∷ []))
 
   -- the elements up to the closing mark
-  pub listed_law : Plain anything (λ xs. listed X xs · kind close) (listed_to close x)
+  pub listed_law : Plain bare anything (λ xs. listed X xs · kind close) (listed_to close x)
   listed_law = same_plain
-      (either (is_next close) (next_alike (λ token. is_kind close token.kind)) (skip_last anything close []) (after law (λ a. more_law (a ∷ [])) (λ a b tokens rest is ends. refl) (λ tokens fault is. is) (λ tokens a rest fault took is. is))
+      (either (is_next close) (next_alike (λ token. is_kind close token.kind)) (skip_last bare anything close []) (after law (λ a. more_law (a ∷ [])) (λ a b tokens rest is ends. refl) (λ tokens fault is. is) (λ tokens a rest fault took is. is))
       (λ xs front rest m. kind_alone front rest m.is) (λ xs front rest t ends. not_closed xs front rest t) (λ tokens fault t is. is) (λ tokens fault t is. is))
       into out
     where

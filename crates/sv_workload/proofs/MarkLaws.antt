@@ -5,17 +5,19 @@ use Rattle.sv_lex.specs.declared.tokens.Token.{Token}
 use Rattle.sv_app.specs.declared.refusals.Code.{Code}
 use Rattle.sv_app.specs.declared.refusals.Code.TheVariants.{Syntax}
 use Rattle.sv_app.specs.Codes.{number_of}
-use Rattle.sv_schema_reader.specs.declared.faults.Fault.{Fault}
-use Rattle.sv_schema_reader.specs.Reading.{Read, given}
-use Rattle.sv_schema_reader.proofs.ReadLaws.{Plain, Took, anything, same_read}
+use Rattle.sv_reader.specs.declared.faults.ReadFault.{ReadFault}
+use Rattle.sv_reader.specs.Reading.{Read, given}
+use Rattle.sv_reader.proofs.AnswerLaws.{anything, same_read}
+use Rattle.sv_reader.proofs.ReadLaws.{Plain, Took}
 use Rattle.sv_workload.specs.Elements.{Refusals, Begins, IsMisplaced, IsFirst, AreNone}
 use Rattle.sv_workload.specs.Reading.{settled, or_else}
 use Rattle.sv_workload.proofs.ElementLaws.{Missing, missing}
 use Rattle.sv_workload.proofs.JudgeLaws.{Alike, Found, Judged}
 use Rattle.sv_workload.proofs.LoopLaws.{Element}
+use Rattle.sv_reader.proofs.MatterLaws.{bare}
 
 -- the first of the refusals that are no matter of the grammar; an element may begin with the tokens up to it
-pub record FirstMark {A : Type 0} (element : A → List Token → Type 0) (tokens : List Token) (marked : Refusals) (fault : Fault) : Type 0 where
+pub record FirstMark {A : Type 0} (element : A → List Token → Type 0) (tokens : List Token) (marked : Refusals) (fault : ReadFault) : Type 0 where
   pub pre : List Token
   pub token : Token
   pub others : List Token
@@ -24,9 +26,9 @@ pub record FirstMark {A : Type 0} (element : A → List Token → Type 0) (token
   pub place : fault.left ≡ length (token ∷ others)
   pub first : IsFirst marked fault.code (token ∷ others)
 
-pub record Marks {A : Type 0} (element : A → List Token → Type 0) (tokens : List Token) (marked : Refusals) (mark : Option Fault) : Type 0 where
+pub record Marks {A : Type 0} (element : A → List Token → Type 0) (tokens : List Token) (marked : Refusals) (mark : Option ReadFault) : Type 0 where
   pub none : mark ≡ None → AreNone marked
-  pub some : (fault : Fault) → mark ≡ Some fault → FirstMark element tokens marked fault
+  pub some : (fault : ReadFault) → mark ≡ Some fault → FirstMark element tokens marked fault
   pub within : (code : Code) (here : List Token) → marked code here → length here ≤ length tokens
 
 -- of two ways to split some tokens, the one with the shorter front
@@ -45,7 +47,7 @@ longer (x ∷ front) rest (y ∷ pre) behind e le = let same = cons_tail e in
     let more = longer front rest pre behind same.1 le in
     record { more = more.more; fronts = (λ i. sym same.0 i ∷ more.fronts i); rests = more.rests }
 
-module _ {A : Type 0} {P : A → List Token → Type 0} {read : List Token → Read A} (law : Plain anything P read) where
+module _ {A : Type 0} {P : A → List Token → Type 0} {read : List Token → Read A} (law : Plain bare anything P read) where
   -- no element ends, and none is misplaced, where one may still go on
 
   pub past : (tokens pre : List Token) (token : Token) (others : List Token) (a : A) (front rest : List Token) → tokens ≡ pre ++ token ∷ others → Begins P (pre ++ token ∷ [])
@@ -144,7 +146,7 @@ module _ {A : Type 0} {P : A → List Token → Type 0} {read : List Token → R
       by_order (inr (inl e)) = inr e
       by_order (inr (inr lt)) = absurd (by_longer lt (longer was.front there is.front here (sym was.whole ∙ is.whole) (omega (arith, lt))))
 
-  pub judged_marked : (tokens : List Token) (marked : Refusals) (mark : Option Fault) → Marks P tokens marked mark → Judged (Element P tokens) (Standing tokens marked) tokens (settled mark (read tokens))
+  pub judged_marked : (tokens : List Token) (marked : Refusals) (mark : Option ReadFault) → Marks P tokens marked mark → Judged (Element P tokens) (Standing tokens marked) tokens (settled mark (read tokens))
   judged_marked tokens marked mark marks = by_mark mark refl
     where
       element : (a : A) (rest : List Token) → read tokens ≡ Ok (a, rest) → Element P tokens a rest
@@ -203,7 +205,7 @@ module _ {A : Type 0} {P : A → List Token → Type 0} {read : List Token → R
                     is = subst (λ l. P a l) (fronts ∙ sym (append_assoc is.front (x ∷ []) more)) took.is;
                   })
 
-      by_mark : (m : Option Fault) → mark ≡ m → Judged (Element P tokens) (Standing tokens marked) tokens (settled m (read tokens))
+      by_mark : (m : Option ReadFault) → mark ≡ m → Judged (Element P tokens) (Standing tokens marked) tokens (settled m (read tokens))
       by_mark None e = record {
         took = λ a rest r. element a rest r;
         right = λ a rest r code here standing. right a rest r code here standing;
@@ -217,19 +219,19 @@ module _ {A : Type 0} {P : A → List Token → Type 0} {read : List Token → R
           right a rest r code here (Mark is) = marks.none e code here is
           right a rest r code here (Misplaced s is) = whole_read a rest r here is
 
-          by_missing : {fault : Fault} → Missing P tokens fault → Found (Element P tokens) (Standing tokens marked) fault
+          by_missing : {fault : ReadFault} → Missing P tokens fault → Found (Element P tokens) (Standing tokens marked) fault
           by_missing {fault} m = record {
             here = m.here;
             first = record {
-              is = Misplaced (ap (λ (f : Fault). f.code) m.place) m.is;
+              is = Misplaced (ap (λ (f : ReadFault). f.code) m.place) m.is;
               first = λ code there other. by_other code there other;
             };
-            place = ap (λ (f : Fault). f.left) m.place;
+            place = ap (λ (f : ReadFault). f.left) m.place;
             inside = λ a rest is. inside a rest is;
           }
             where
               code_is : fault.code ≡ Syntax
-              code_is = ap (λ (f : Fault). f.code) m.place
+              code_is = ap (λ (f : ReadFault). f.code) m.place
 
               by_place : (code : Code) (there : List Token) → code ≡ Syntax → (length there < length m.here) ⊎ (length there ≡ length m.here)
                   → (length there < length m.here) ⊎ ((length there ≡ length m.here) × (number_of fault.code ≤ number_of code))
@@ -295,18 +297,18 @@ place_marks P tokens pre token others wanted Holds false whole begins into out =
 
 -- marks of which those of the first kind come before the others
 
-abbrev pub Before : Fault → Code → List Token → Type 0
+abbrev pub Before : ReadFault → Code → List Token → Type 0
 Before fault code here = (length here < fault.left) ⊎ ((length here ≡ fault.left) × (number_of fault.code ≤ number_of code))
 
-pub marks_or : {A : Type 0} {P : A → List Token → Type 0} {tokens : List Token} {m n : Refusals} {first second : Option Fault} → Marks P tokens m first → Marks P tokens n second
-    → ((fault : Fault) → first ≡ Some fault → (code : Code) (here : List Token) → n code here → Before fault code here) → Marks P tokens (λ code here. m code here ⊎ n code here) (or_else first second)
+pub marks_or : {A : Type 0} {P : A → List Token → Type 0} {tokens : List Token} {m n : Refusals} {first second : Option ReadFault} → Marks P tokens m first → Marks P tokens n second
+    → ((fault : ReadFault) → first ≡ Some fault → (code : Code) (here : List Token) → n code here → Before fault code here) → Marks P tokens (λ code here. m code here ⊎ n code here) (or_else first second)
 marks_or {A} {P} {tokens} {m} {n} {first} {second} a b order = by_first first refl a order
   where
     within : Marks P tokens m first → (code : Code) (here : List Token) → m code here ⊎ n code here → length here ≤ length tokens
     within a code here (inl is) = a.within code here is
     within a code here (inr is) = b.within code here is
 
-    by_first : (f : Option Fault) → first ≡ f → Marks P tokens m f → ((fault : Fault) → f ≡ Some fault → (code : Code) (here : List Token) → n code here → Before fault code here)
+    by_first : (f : Option ReadFault) → first ≡ f → Marks P tokens m f → ((fault : ReadFault) → f ≡ Some fault → (code : Code) (here : List Token) → n code here → Before fault code here)
         → Marks P tokens (λ code here. m code here ⊎ n code here) (or_else f second)
     by_first None e c order = record {
       none = λ s code here is. no_case s code here is;
@@ -318,7 +320,7 @@ marks_or {A} {P} {tokens} {m} {n} {first} {second} a b order = by_first first re
         no_case s code here (inl is) = c.none refl code here is
         no_case s code here (inr is) = b.none s code here is
 
-        by_second : (fault : Fault) → FirstMark P tokens n fault → FirstMark P tokens (λ code here. m code here ⊎ n code here) fault
+        by_second : (fault : ReadFault) → FirstMark P tokens n fault → FirstMark P tokens (λ code here. m code here ⊎ n code here) fault
         by_second fault f = record {
           pre = f.pre;
           token = f.token;
@@ -357,7 +359,7 @@ marks_or {A} {P} {tokens} {m} {n} {first} {second} a b order = by_first first re
             by_other other there (inl is) = f.first.first other there is
             by_other other there (inr is) = placed other there (order g refl other there is)
 
-pub marks_map : {A : Type 0} {P : A → List Token → Type 0} {tokens : List Token} {m n : Refusals} {mark : Option Fault}
+pub marks_map : {A : Type 0} {P : A → List Token → Type 0} {tokens : List Token} {m n : Refusals} {mark : Option ReadFault}
     → ((code : Code) (here : List Token) → m code here → n code here) → ((code : Code) (here : List Token) → n code here → m code here) → Marks P tokens m mark → Marks P tokens n mark
 marks_map {A} {P} {tokens} {m} {n} {mark} into out marks = record {
   none = λ e code here is. marks.none e code here (out code here is);
@@ -374,7 +376,7 @@ marks_map {A} {P} {tokens} {m} {n} {mark} into out marks = record {
 }
 
 -- the marks of a part are those of a whole that begins with some tokens and the part
-pub lift_marks : {A B : Type 0} {P : A → List Token → Type 0} {Q : B → List Token → Type 0} {m : Refusals} {mark : Option Fault} (before tokens : List Token)
+pub lift_marks : {A B : Type 0} {P : A → List Token → Type 0} {Q : B → List Token → Type 0} {m : Refusals} {mark : Option ReadFault} (before tokens : List Token)
     → ((l : List Token) → Begins P l → Begins Q (before ++ l)) → Marks P tokens m mark → Marks Q (before ++ tokens) m mark
 lift_marks {A} {B} {P} {Q} {m} {mark} before tokens lift marks = record {
   none = marks.none;

@@ -9,12 +9,13 @@ use Rattle.sv_app.specs.declared.refusals.Code.TheVariants.{Unknown, BadStep}
 use Rattle.sv_app.specs.Lookups.{table_of}
 use Rattle.sv_app.specs.Schema.{Declaration}
 use Rattle.sv_app.specs.Trees.{Transaction}
-use Rattle.sv_schema_reader.specs.declared.faults.Fault.{Fault}
-use Rattle.sv_schema_reader.specs.Grammar.{name, IsName}
-use Rattle.sv_schema_reader.specs.Reading.{Read, is_name, is_some, name_of, given}
-use Rattle.sv_schema_reader.proofs.KindLaws.{token_of}
-use Rattle.sv_schema_reader.proofs.PartLaws.{name_is, is_named, name_next}
-use Rattle.sv_schema_reader.proofs.ReadLaws.{Took, same_read}
+use Rattle.sv_reader.specs.declared.faults.ReadFault.{ReadFault}
+use Rattle.sv_reader.specs.Grammar.{name, IsName}
+use Rattle.sv_reader.specs.Reading.{Read, is_name, is_some, name_of, given}
+use Rattle.sv_reader.proofs.KindLaws.{token_of}
+use Rattle.sv_reader.proofs.PartLaws.{name_is, is_named, name_next}
+use Rattle.sv_reader.proofs.AnswerLaws.{same_read}
+use Rattle.sv_reader.proofs.ReadLaws.{Took}
 use Rattle.sv_workload.specs.declared.written.Color.{Color}
 use Rattle.sv_workload.specs.declared.written.Color.TheVariants as colors
 use Rattle.sv_workload.specs.Elements.{Refusals, Begins, AreNone}
@@ -48,13 +49,13 @@ out_marks P tokens pre (found ∷ more) wanted least most w begins = by_out (is_
     by_out false o = marks_map (λ code here is. absurd is) (λ code here is. contra (is_out_by least most found more is.2) o) (no_marks P tokens)
     by_out true o = let out = out_is least most found more o in place_marks P tokens pre found more wanted (IsOutside least most (found ∷ more)) true w (begins found out.n out.is) (λ t. out) (λ is. refl)
 
-pub out_place : (wanted : Code) (least most : ℕ) (tokens : List Token) (fault : Fault) → out_mark wanted least most tokens ≡ Some fault → fault.left ≡ length tokens
+pub out_place : (wanted : Code) (least most : ℕ) (tokens : List Token) (fault : ReadFault) → out_mark wanted least most tokens ≡ Some fault → fault.left ≡ length tokens
 out_place wanted least most [] fault e = absurd cc
 out_place wanted least most (token ∷ others) fault e = by_out (is_out least most (natural_of token.kind)) e
   where
     by_out : (b : Bool) → given b (record { code = wanted; left = length (token ∷ others) }) ≡ Some fault → fault.left ≡ length (token ∷ others)
     by_out false e = absurd cc
-    by_out true e = let same : record { code = wanted; left = length (token ∷ others) } ≡ fault = cc in sym (ap (λ (f : Fault). f.left) same)
+    by_out true e = let same : record { code = wanted; left = length (token ∷ others) } ≡ fault = cc in sym (ap (λ (f : ReadFault). f.left) same)
 
 -- behind a number
 
@@ -69,7 +70,7 @@ pub record BehindNumber (R : List Token → Refusals) (tokens : List Token) (cod
 pub number_less : (n : ℕ) (tokens front rest : List Token) → tokens ≡ front ++ rest → number n front → length rest < length tokens
 number_less n tokens front rest w is = omega (arith, ap length w, length-append front rest, ap length is.only)
 
-pub behind_marks : {A : Type 0} (P : A → List Token → Type 0) (tokens pre others : List Token) (R : List Token → Refusals) (mark : List Token → Option Fault) → tokens ≡ pre ++ others
+pub behind_marks : {A : Type 0} (P : A → List Token → Type 0) (tokens pre others : List Token) (R : List Token → Refusals) (mark : List Token → Option ReadFault) → tokens ≡ pre ++ others
     → ((found : Token) (n : ℕ) (rest : List Token) → found.kind ≡ Number (pos n) → Marks P (pre ++ found ∷ rest) (R rest) (mark rest)) → Marks P tokens (BehindNumber R others) (from_read (count_at others) mark)
 behind_marks P tokens pre others R mark w marks = by_count (count_at others) refl
   where
@@ -157,7 +158,7 @@ module _ (sites : ℕ) (word : Token) (others : List Token) where
       (λ first n rest k. out_marks packet (word ∷ first ∷ rest) (word ∷ first ∷ []) rest BadStep 0 most_packet refl (λ second m j. two_numbers w first second n m k j)))
       order
     where
-      order : (fault : Fault) → out_mark BadStep 1 sites others ≡ Some fault → (code : Code) (here : List Token) → BehindNumber (λ rest. OutAt BadStep 0 most_packet rest) others code here → Before fault code here
+      order : (fault : ReadFault) → out_mark BadStep 1 sites others ≡ Some fault → (code : Code) (here : List Token) → BehindNumber (λ rest. OutAt BadStep 0 most_packet rest) others code here → Before fault code here
       order fault e code here is = let lt = number_less is.n others is.front is.rest is.whole is.is in let place = out_place BadStep 1 sites others fault e in inl (omega (arith, lt, place, ap length is.refused.1))
 
 pub packet_marks : (sites : ℕ) (tokens : List Token) → Marks packet tokens (PacketRefused sites tokens) (packet_mark sites tokens)

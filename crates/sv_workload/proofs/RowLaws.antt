@@ -26,12 +26,13 @@ use Rattle.sv_app.proofs.PlaceLaws.{place_total, exact_places}
 use Rattle.sv_effect.specs.Fits.{HasType}
 use Rattle.sv_effect.specs.Initial.{ValuesFit}
 use Rattle.sv_effect.specs.TablesOfCut.{init_place, is_place}
-use Rattle.sv_schema_reader.specs.declared.faults.Fault.{Fault}
-use Rattle.sv_schema_reader.specs.Grammar.{IsName}
-use Rattle.sv_schema_reader.specs.Reading.{Read, given, name_of, is_name}
-use Rattle.sv_schema_reader.proofs.PartLaws.{name_is}
-use Rattle.sv_schema_reader.proofs.PartLaws as parts
-use Rattle.sv_schema_reader.proofs.ReadLaws.{Took, same_read}
+use Rattle.sv_reader.specs.declared.faults.ReadFault.{ReadFault}
+use Rattle.sv_reader.specs.Grammar.{IsName}
+use Rattle.sv_reader.specs.Reading.{Read, given, name_of, is_name}
+use Rattle.sv_reader.proofs.PartLaws.{name_is}
+use Rattle.sv_reader.proofs.PartLaws as parts
+use Rattle.sv_reader.proofs.AnswerLaws.{same_read}
+use Rattle.sv_reader.proofs.ReadLaws.{Took}
 use Rattle.sv_workload.specs.declared.written.Row.{Row}
 use Rattle.sv_workload.specs.Fits.{RowFits}
 use Rattle.sv_workload.specs.Grammar.{row}
@@ -257,7 +258,7 @@ module _ (schema : List Declaration) where
             not_long e = grind (arith, nat_tests, l, e)
 
     -- a row that isn't whole
-    part_row : (t : Declaration) (fault : Fault) → table_of schema ident ≡ Some t → row_at tokens ≡ Err fault → Tells before tokens (crowded rows)
+    part_row : (t : Declaration) (fault : ReadFault) → table_of schema ident ≡ Some t → row_at tokens ≡ Err fault → Tells before tokens (crowded rows)
     part_row t fault e read = only_crowd t e (λ s front behind table whole is its_table misfit. no_row s front behind whole is) (λ s front behind table whole is its_table l a. no_row s front behind whole is)
       where
         no_row : (s : Row) (front behind : List Token) → tokens ≡ front ++ behind → row s front → ⊥

@@ -10,12 +10,13 @@ use Rattle.sv_app.specs.declared.refusals.Code.TheVariants.{Syntax, Many, BadSte
 use Rattle.sv_app.specs.declared.requests.Request.{Request}
 use Rattle.sv_app.specs.Codes.{number_of}
 use Rattle.sv_app.specs.Trees.{Transaction}
-use Rattle.sv_schema_reader.specs.declared.faults.Fault.{Fault}
-use Rattle.sv_schema_reader.specs.Grammar.{word, mark}
-use Rattle.sv_schema_reader.specs.Reading.{Read, ◌>>=◌, is_kind, is_some, ident_of, is_name, given, found_at}
-use Rattle.sv_schema_reader.proofs.KindLaws.{token_of, kind_is, kind_same}
-use Rattle.sv_schema_reader.proofs.MadeLaws.{take_plain, skip_plain, skip_last}
-use Rattle.sv_schema_reader.proofs.ReadLaws.{Plain, anything, same_plain, same_read}
+use Rattle.sv_reader.specs.declared.faults.ReadFault.{ReadFault}
+use Rattle.sv_reader.specs.Grammar.{word, mark}
+use Rattle.sv_reader.specs.Reading.{Read, ◌>>=◌, is_kind, is_some, ident_of, is_name, given, found_at}
+use Rattle.sv_reader.proofs.KindLaws.{token_of, kind_is, kind_same}
+use Rattle.sv_reader.proofs.MadeLaws.{take_plain, skip_plain, skip_last}
+use Rattle.sv_reader.proofs.AnswerLaws.{anything, same_read}
+use Rattle.sv_reader.proofs.ReadLaws.{Plain, same_plain}
 use Rattle.sv_workload.specs.declared.written.Call.{Call}
 use Rattle.sv_workload.specs.Documents.{request_of}
 use Rattle.sv_workload.specs.Elements.{Refusals, Begins, IsMisplaced, Among, AreNone}
@@ -34,13 +35,14 @@ use Rattle.sv_workload.proofs.LastLaws.{session_none}
 use Rattle.sv_workload.proofs.MarkLaws.{Marks, At, Before, no_marks, place_marks, marks_or, marks_map, Standing, Mark as OfMark, Misplaced, judged_marked}
 use Rattle.sv_workload.proofs.SettingLaws.{count_law, out_is, is_out_by}
 use Rattle.sv_workload.proofs.ValueLaws.{head_same}
+use Rattle.sv_reader.proofs.MatterLaws.{bare}
 
 abbrev head_made : ℕ → Unit {0} → ℕ
 head_made n last = n
 
-pub session_head_law : Plain anything session_head session_head_at
+pub session_head_law : Plain bare anything session_head session_head_at
 unfolding session_head_at
-session_head_law = same_plain (skip_plain (Name (codes "session")) (λ (x : ℕ × Unit {0}). head_made x.0 x.1) (take_plain head_made count_law (λ n. skip_last anything (Mark LeftBrace) n)))
+session_head_law = same_plain (skip_plain (Name (codes "session")) (λ (x : ℕ × Unit {0}). head_made x.0 x.1) (take_plain head_made count_law (λ n. skip_last bare anything (Mark LeftBrace) n)))
     (λ n l m. subst (λ x. session_head x l) (sym m.made) m.is) (λ n l is. record { «from» = (n, tt); is = is; made = refl })
 
 -- the head of a session may begin with its word, and with its word and a number
@@ -132,16 +134,16 @@ module _ (index : ℕ) where
       marked : Refusals
       marked code here = Crowded (token ∷ others) code here ⊎ Numbered others code here
 
-      both : Option Fault
+      both : Option ReadFault
       both = or_else (at_front (given (nat_le 64 index) Many) (token ∷ others)) (out_mark BadStep (suc index) (suc index) others)
 
-      order : (fault : Fault) → at_front (given (nat_le 64 index) Many) (token ∷ others) ≡ Some fault → (code : Code) (here : List Token) → Numbered others code here → Before fault code here
+      order : (fault : ReadFault) → at_front (given (nat_le 64 index) Many) (token ∷ others) ≡ Some fault → (code : Code) (here : List Token) → Numbered others code here → Before fault code here
       order fault e code here is = by_test (nat_le 64 index) e
         where
           by_test : (t : Bool) → at_front (given t Many) (token ∷ others) ≡ Some fault → Before fault code here
           by_test false e = absurd cc
           by_test true e = let same : record { code = Many; left = length (token ∷ others) } ≡ fault = cc in
-              inl (omega (arith, ap (λ (f : Fault). f.left) same, ap length is.1))
+              inl (omega (arith, ap (λ (f : ReadFault). f.left) same, ap length is.1))
 
   pub head_judged : (token : Token) (others : List Token) → Judged (Element session_head (token ∷ others)) (HeadRefused (token ∷ others)) (token ∷ others) (session_head_from index (token ∷ others))
   unfolding session_head_from
@@ -150,7 +152,7 @@ module _ (index : ℕ) where
       tokens : List Token
       tokens = token ∷ others
 
-      Judges : Option Fault → Type 0
+      Judges : Option ReadFault → Type 0
       Judges mark = Judged (Element session_head (token ∷ others)) (HeadRefused (token ∷ others)) (token ∷ others) (settled mark (session_head_at (token ∷ others)))
 
       marked : Refusals
@@ -184,7 +186,7 @@ module _ (index : ℕ) where
       by_word true t = let w = kind_is (Name (codes "session")) token.kind t in
           judged_map refl (λ a rest is. is) (λ a rest is. is) (into w) (λ code here is. out code here (token ∷ others) refl is)
           (judged_marked session_head_law (token ∷ others) marked (session_mark index (token ∷ others)) (head_marks token others w))
-      by_word false t = subst (λ (m : Option Fault). Judges m) (ap (λ (b : Bool). if b then or_else (at_front (given (nat_le 64 index) Many) (token ∷ others)) (out_mark BadStep (suc index) (suc index) others) else None) (sym t))
+      by_word false t = subst (λ (m : Option ReadFault). Judges m) (ap (λ (b : Bool). if b then or_else (at_front (given (nat_le 64 index) Many) (token ∷ others)) (out_mark BadStep (suc index) (suc index) others) else None) (sym t))
           (judged_map refl (λ a rest is. is) (λ a rest is. is) none_into (λ code here is. none_out t code here (token ∷ others) refl is)
           (judged_marked session_head_law (token ∷ others) (λ code here. ⊥) None (no_marks session_head (token ∷ others))))
 

@@ -9,8 +9,8 @@ use Rattle.sv_lex.specs.declared.tokens.TokenKind.TheVariants.{Mark}
 use Rattle.sv_app.specs.declared.refusals.Code.TheVariants.{Many}
 use Rattle.sv_app.specs.declared.requests.Request.{Request}
 use Rattle.sv_app.specs.Trees.{Transaction}
-use Rattle.sv_schema_reader.specs.declared.faults.Fault.{Fault}
-use Rattle.sv_schema_reader.specs.Reading.{Read, ◌>>=◌, given, found_at, is_kind, is_name, turns_from}
+use Rattle.sv_reader.specs.declared.faults.ReadFault.{ReadFault}
+use Rattle.sv_reader.specs.Reading.{Read, ◌>>=◌, given, found_at, is_kind, is_name, turns_from}
 use Rattle.sv_workload.specs.declared.written.Call.{Call}
 use Rattle.sv_workload.specs.Documents.{request_of}
 use Rattle.sv_workload.specs.LastRefused.{total}
@@ -18,7 +18,8 @@ use Rattle.sv_workload.specs.Reading.{as_item, at_front, settled, call_mark}
 use Rattle.sv_workload.specs.LineReading.{is_more}
 use Rattle.sv_workload.specs.SessionReading.{entry_at, sooner, crowd_mark, entry_mark, entry_from, entries_from, requests_from, session_head_from, closed, session_from, session_requests, sessions_from}
 use Rattle.sv_workload.proofs.EntryLaws.{entry_shrinks, entry_steps}
-use Rattle.sv_workload.proofs.LoopLaws.{keep, more, fault, end}
+use Rattle.sv_reader.specs.Reading.{keep}
+use Rattle.sv_workload.proofs.LoopLaws.{more, fault, end}
 use Rattle.sv_workload.proofs.SessionLaws.{seen, session_shrinks, session_steps}
 use Rattle.sv_workload.proofs.TurnLaws.{before, before_err}
 
@@ -33,7 +34,7 @@ module _ (txns : List Transaction) (count : ℕ) where
   requests_less requests tokens request rest t e = let b = before (request_of txns) (entry_from txns (count + length requests) tokens) request rest e in
       entry_shrinks txns (request_of txns) count requests tokens b.item rest t b.is
 
-  pub requests_err : (requests : List Request) (tokens : List Token) (f : Fault)
+  pub requests_err : (requests : List Request) (tokens : List Token) (f : ReadFault)
       → is_name tokens ≡ true → as_item (request_of txns) (entry_from txns (count + length requests) tokens) ≡ Err f → requests_from txns count requests tokens ≡ Err f
   requests_err requests tokens f t e = fault (entry_steps txns (request_of txns) count) requests tokens f t (before_err (request_of txns) (entry_from txns (count + length requests) tokens) f e)
 
@@ -42,7 +43,7 @@ module _ (txns : List Transaction) (count : ℕ) where
 
 -- a call that was read found room
 
-sooner_none : (first second : Option Fault) → sooner first second ≡ None → second ≡ None
+sooner_none : (first second : Option ReadFault) → sooner first second ≡ None → second ≡ None
 sooner_none None second e = e
 sooner_none (Some f) None e = refl
 sooner_none (Some f) (Some g) e = by_test (nat_lt f.left g.left) e
@@ -59,7 +60,7 @@ entry_room txns count tokens c rest e = by_mark (entry_mark txns count tokens) r
     by_crowd true t n = absurd cc
     by_crowd false t n = grind (arith, nat_tests, t)
 
-    by_mark : (mark : Option Fault) → entry_mark txns count tokens ≡ mark → settled mark (entry_at tokens) ≡ Ok (c, rest) → count < 8192
+    by_mark : (mark : Option ReadFault) → entry_mark txns count tokens ≡ mark → settled mark (entry_at tokens) ≡ Ok (c, rest) → count < 8192
     by_mark (Some f) m e = absurd cc
     by_mark None m e = by_crowd (nat_le 8192 count) refl (sooner_none (call_mark txns tokens) (crowd_mark count tokens) m)
 
@@ -140,7 +141,7 @@ module _ (txns : List Transaction) where
   sessions_less index count tokens requests rest t e =
       let b = before (seen txns) (session_from txns index count tokens) requests rest (sym (session_seen index count tokens) ∙ e) in session_shrinks txns index count tokens b.item rest t b.is
 
-  pub sessions_err : (sessions : List (List Request)) (tokens : List Token) (f : Fault)
+  pub sessions_err : (sessions : List (List Request)) (tokens : List Token) (f : ReadFault)
       → is_more tokens ≡ true → session_requests txns (length sessions) (total length sessions) tokens ≡ Err f → sessions_from txns sessions tokens ≡ Err f
   sessions_err sessions tokens f t e = fault (session_steps txns) sessions tokens f t
       (before_err (seen txns) (session_from txns (length sessions) (total length sessions) tokens) f (sym (session_seen (length sessions) (total length sessions) tokens) ∙ e))

@@ -11,13 +11,14 @@ use Rattle.sv_lex.specs.declared.tokens.TokenKind.TheVariants.{Name, Number, Tex
 use Rattle.sv_app.specs.declared.refusals.Code.{Code}
 use Rattle.sv_app.specs.declared.refusals.Code.TheVariants as codes_of
 use Rattle.sv_app.specs.Codes.{number_of}
-use Rattle.sv_schema_reader.specs.declared.faults.Fault.{Fault}
-use Rattle.sv_schema_reader.specs.declared.faults.Halt.{Halt}
-use Rattle.sv_schema_reader.specs.Grammar.{Both, ◌·◌, kind, word, mark}
-use Rattle.sv_schema_reader.specs.Reading.{Read, Reads, ◌>>=◌, is_kind, is_some, by_word, given, token_at}
-use Rattle.sv_schema_reader.proofs.KindLaws.{token_of, kind_is, kind_same}
-use Rattle.sv_schema_reader.proofs.MadeLaws.{Made, take_last, take_plain, skip_plain}
-use Rattle.sv_schema_reader.proofs.ReadLaws.{Took, Plain, anything, Means, leaf, same_plain, same_read}
+use Rattle.sv_reader.specs.declared.faults.ReadFault.{ReadFault}
+use Rattle.sv_reader.specs.declared.faults.ReadStop.{ReadStop}
+use Rattle.sv_reader.specs.Grammar.{Both, ◌·◌, kind, word, mark}
+use Rattle.sv_reader.specs.Reading.{Read, Reads, ◌>>=◌, is_kind, is_some, by_word, given, token_at}
+use Rattle.sv_reader.proofs.KindLaws.{token_of, kind_is, kind_same}
+use Rattle.sv_reader.proofs.MadeLaws.{Made, take_last, take_plain, skip_plain}
+use Rattle.sv_reader.proofs.AnswerLaws.{anything, same_read}
+use Rattle.sv_reader.proofs.ReadLaws.{Took, Plain, Means, leaf, same_plain}
 use Rattle.sv_workload.specs.declared.written.Given.{Given}
 use Rattle.sv_workload.specs.declared.written.Setting.{Setting}
 use Rattle.sv_workload.specs.declared.written.Setting.TheVariants.{Sites, Rows, Changes}
@@ -31,8 +32,9 @@ use Rattle.sv_workload.proofs.LoopLaws.{Element, Steps}
 use Rattle.sv_workload.proofs.MarkLaws.{Marks, At, Before, no_marks, place_marks, marks_or, marks_map, Standing, Mark as OfMark, Misplaced, judged_marked}
 use Rattle.sv_workload.proofs.ValueLaws.{Natural, natural_law, natural_is, number_of as number_read, of_number, natural_there, head_same}
 use Rattle.sv_workload.proofs.InitLaws.{contra}
+use Rattle.sv_reader.proofs.MatterLaws.{bare}
 
-pub count_law : Plain anything number count_at
+pub count_law : Plain bare anything number count_at
 count_law = same_plain (take_last nat_abs natural_law) into out
   where
     into : (n : ℕ) (l : List Token) → Made nat_abs Natural n l → number n l
@@ -76,14 +78,14 @@ sets token which e = by_kind token.kind e
 pub set_by : (token : Token) (which : Setting) → token.kind ≡ Name (setting_word which) → setting_of token ≡ Some which
 set_by token which e = ap (by_word setting_named) e ∙ setting_there which
 
-setting_leaf : Plain anything (λ which. word (setting_word which)) (token_at setting_of)
-setting_leaf = same_plain (leaf anything setting_of (token_of (Name (codes "sites"))) Sites refl)
+setting_leaf : Plain bare anything (λ which. word (setting_word which)) (token_at setting_of)
+setting_leaf = same_plain (leaf bare anything setting_of (token_of (Name (codes "sites"))) Sites refl)
     (λ which l m. record { token = m.token; only = m.only; holds = sets m.token which m.holds }) (λ which l w. record { token = w.token; only = w.only; holds = set_by w.token which w.holds })
 
 abbrev setting_made : Setting → ℕ → Setting × ℕ
 setting_made which n = (which, n)
 
-pub setting_law : Plain anything setting setting_at
+pub setting_law : Plain bare anything setting setting_at
 unfolding setting_at
 setting_law = same_plain (take_plain setting_made setting_leaf (λ which. skip_plain (Mark Eq) (setting_made which) (take_last (setting_made which) count_law)))
     (λ s l m. subst (λ x. setting x l) (sym m.made) m.is) (λ s l is. record { «from» = s; is = is; made = refl })
@@ -292,13 +294,13 @@ module _ (count : ℕ) where
       (marks_by count (state before) s (token ∷ others))) (sym (set_by token which w))
       (marks_or (again_marks before token others which w) (out_marks before token others which w) order)
     where
-      order : (fault : Fault) → again_mark (given_of which (state before)) (token ∷ others) ≡ Some fault → (code : Code) (here : List Token) → IsOut before token others which w code here → Before fault code here
+      order : (fault : ReadFault) → again_mark (given_of which (state before)) (token ∷ others) ≡ Some fault → (code : Code) (here : List Token) → IsOut before token others which w code here → Before fault code here
       order fault e code here is = by_given (given_of which (state before)) e
         where
           by_given : (g : Option ℕ) → again_mark g (token ∷ others) ≡ Some fault → Before fault code here
           by_given None e = absurd cc
           by_given (Some n) e = let same : record { code = codes_of.Twice; left = length (token ∷ others) } ≡ fault = cc in
-              inl (omega (arith, ap (λ (f : Fault). f.left) same, ap length is.whole))
+              inl (omega (arith, ap (λ (f : ReadFault). f.left) same, ap length is.whole))
 
   word_head : (which : Setting) (front rest : List Token) (token : Token) (others : List Token) → token ∷ others ≡ front ++ rest → word (setting_word which) front → (token.kind ≡ Name (setting_word which)) × (others ≡ rest)
   word_head which front rest token others e is =
@@ -362,7 +364,7 @@ module _ (count : ℕ) where
       by_front [] is w = absurd (setting_some s is)
       by_front (x ∷ front) is w = omega (arith, ap length w, length-append front rest)
 
-      by_mark : (mark : Option Fault) → settled mark (setting_at tokens) ≡ Ok (s, rest) → length rest < length tokens
+      by_mark : (mark : Option ReadFault) → settled mark (setting_at tokens) ≡ Ok (s, rest) → length rest < length tokens
       by_mark (Some fault) e = absurd cc
       by_mark None e = let took = setting_law.took tokens s rest e in by_front took.front took.is took.whole
 
@@ -380,7 +382,7 @@ module _ (count : ℕ) where
 
 -- what was set keeps its bounds
 
-pub none_settled : {A : Type 0} (mark : Option Fault) (read : Read A) (a : A) (rest : List Token) → settled mark read ≡ Ok (a, rest) → (mark ≡ None) × (read ≡ Ok (a, rest))
+pub none_settled : {A : Type 0} (mark : Option ReadFault) (read : Read A) (a : A) (rest : List Token) → settled mark read ≡ Ok (a, rest) → (mark ≡ None) × (read ≡ Ok (a, rest))
 none_settled None read a rest e = (refl, e)
 none_settled (Some fault) read a rest e = absurd cc
 
@@ -392,7 +394,7 @@ pub given_false : {A : Type 0} (b : Bool) (a : A) → given b a ≡ None → b �
 given_false true a e = absurd cc
 given_false false a e = refl
 
-abbrev late_fault : List Token → Fault
+abbrev late_fault : List Token → ReadFault
 late_fault tokens = record { code = codes_of.Many; left = length tokens }
 
 pub setting_bounded : (count : ℕ) (g : Given) (tokens : List Token) (s : Setting × ℕ) (rest : List Token) → setting_from count g tokens ≡ Ok (s, rest) → s.1 ≤ most_of s.0
@@ -457,8 +459,8 @@ unset_bounded = record { sites = λ n e. absurd cc; rows = λ n e. absurd cc; ch
 
 pub ruleset bounds = (setting_bounded, bounded_with, unset_bounded)
 
-pub bounded_read : (count : ℕ) (g : Given) (tokens : List Token) (result : Result (Setting × ℕ) Halt) (rest : List Token) → setting_mark count g tokens ≡ None → Reads (λ s. s) result rest (setting_at tokens)
+pub bounded_read : (count : ℕ) (g : Given) (tokens : List Token) (result : Result (Setting × ℕ) ReadStop) (rest : List Token) → setting_mark count g tokens ≡ None → Reads (λ s. s) result rest (setting_at tokens)
     → IfOk result (λ s. s.1 ≤ most_of s.0)
 unfolding setting_from
-bounded_read count g all (Ok s) rest none read = setting_bounded count g all s rest (ap (λ (m : Option Fault). settled m (setting_at all)) none ∙ read)
+bounded_read count g all (Ok s) rest none read = setting_bounded count g all s rest (ap (λ (m : Option ReadFault). settled m (setting_at all)) none ∙ read)
 bounded_read count g all (Err halt) rest none read = tt

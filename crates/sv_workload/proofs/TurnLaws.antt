@@ -3,9 +3,9 @@ use Rattle.std.proofs.Common.{◌≡◌, ◌∙◌, ◌<◌, true, false, List, 
 use Rattle.sv_lex.specs.declared.tokens.Token.{Token}
 use Rattle.sv_app.specs.declared.requests.InitRow.{InitRow}
 use Rattle.sv_app.specs.Schema.{Declaration}
-use Rattle.sv_schema_reader.specs.declared.faults.Fault.{Fault}
-use Rattle.sv_schema_reader.specs.Reading.{Read, is_name}
-use Rattle.sv_schema_reader.proofs.ReadLaws.{same_read}
+use Rattle.sv_reader.specs.declared.faults.ReadFault.{ReadFault}
+use Rattle.sv_reader.specs.Reading.{Read, is_name}
+use Rattle.sv_reader.proofs.AnswerLaws.{same_read}
 use Rattle.sv_workload.specs.declared.written.Given.{Given}
 use Rattle.sv_workload.specs.declared.written.Row.{Row}
 use Rattle.sv_workload.specs.declared.written.Setting.{Setting}
@@ -25,7 +25,7 @@ pub before : {A B : Type 0} (view : A → B) (read : Read A) (b : B) (rest : Lis
 before view (Err f) b rest e = absurd cc
 before view (Ok (a, r)) b rest e = let same = same_read e in record { item = a; is = ap (λ l. Ok (a, l)) same.rests; made = sym same.item }
 
-pub before_err : {A B : Type 0} (view : A → B) (read : Read A) (f : Fault) → as_item view read ≡ Err f → read ≡ Err f
+pub before_err : {A B : Type 0} (view : A → B) (read : Read A) (f : ReadFault) → as_item view read ≡ Err f → read ≡ Err f
 before_err view (Ok read) f e = absurd cc
 before_err view (Err g) f e = let same : g ≡ f = cc in ap Err same
 
@@ -38,7 +38,7 @@ pub rows_less : (schema : List Declaration) (rows : List InitRow) (tokens : List
     → is_name tokens ≡ true → as_item (init_row schema) (row_from schema rows tokens) ≡ Ok (row, rest) → length rest < length tokens
 rows_less schema rows tokens row rest t e = let b = before (init_row schema) (row_from schema rows tokens) row rest e in row_shrinks schema rows tokens b.item rest t b.is
 
-pub rows_err : (schema : List Declaration) (rows : List InitRow) (tokens : List Token) (f : Fault)
+pub rows_err : (schema : List Declaration) (rows : List InitRow) (tokens : List Token) (f : ReadFault)
     → is_name tokens ≡ true → as_item (init_row schema) (row_from schema rows tokens) ≡ Err f → rows_from schema rows tokens ≡ Err f
 rows_err schema rows tokens f t e = fault (row_steps schema) rows tokens f t (before_err (init_row schema) (row_from schema rows tokens) f e)
 
@@ -55,7 +55,7 @@ pub settings_less : (count : ℕ) (g : Given) (tokens : List Token) (s : Setting
     → begins_setting tokens ≡ true → setting_from count g tokens ≡ Ok (s, rest) → length rest < length tokens
 settings_less count g tokens s rest t e = setting_shrinks count g tokens s rest t e
 
-pub settings_err : (count : ℕ) (g : Given) (tokens : List Token) (f : Fault) → begins_setting tokens ≡ true → setting_from count g tokens ≡ Err f → settings_from count g tokens ≡ Err f
+pub settings_err : (count : ℕ) (g : Given) (tokens : List Token) (f : ReadFault) → begins_setting tokens ≡ true → setting_from count g tokens ≡ Err f → settings_from count g tokens ≡ Err f
 settings_err count g tokens f t e = fault (setting_steps count) g tokens f t e
 
 pub settings_end : (count : ℕ) (g : Given) (tokens : List Token) → begins_setting tokens ≡ false → settings_from count g tokens ≡ Ok (g, tokens)

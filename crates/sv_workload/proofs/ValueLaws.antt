@@ -8,24 +8,27 @@ use Rattle.sv_lex.specs.declared.tokens.Token.{Token}
 use Rattle.sv_lex.specs.declared.tokens.TokenKind.{TokenKind}
 use Rattle.sv_lex.specs.declared.tokens.TokenKind.TheVariants.{Name, Number, Text, Mark}
 use Rattle.sv_app.specs.declared.apps.Ident.{Ident}
-use Rattle.sv_schema_reader.specs.Grammar.{Both, ◌·◌, kind, mark, name, text, separated}
-use Rattle.sv_schema_reader.specs.Reading.{Read, ◌>>=◌, is_kind, is_next, is_text, is_some, bytes_of, given, token_at, kind_at, name_at, text_of, list_at}
-use Rattle.sv_schema_reader.proofs.KindLaws.{token_of}
-use Rattle.sv_schema_reader.proofs.ListLaws.{list}
-use Rattle.sv_schema_reader.proofs.MadeLaws.{Made, both_map, take_last, take_plain, skip_plain, skip_last}
-use Rattle.sv_schema_reader.proofs.PartLaws.{next_alike, kind_next, name_law, text_law}
-use Rattle.sv_schema_reader.proofs.ReadLaws.{Plain, anything, Means, leaf, Either, Left, Right, either, same_plain}
-use Rattle.sv_schema_reader.proofs.SideLaws.{both_assoc, assoc_both}
+use Rattle.sv_reader.specs.Grammar.{Both, ◌·◌, kind, mark, name, text, separated}
+use Rattle.sv_reader.specs.Reading.{Read, ◌>>=◌, is_kind, is_next, is_text, is_some, bytes_of, given, token_at, kind_at, name_at, text_of, list_at}
+use Rattle.sv_reader.proofs.KindLaws.{token_of}
+use Rattle.sv_reader.proofs.ListLaws.{list}
+use Rattle.sv_reader.proofs.MadeLaws.{Made, both_map, take_last, take_plain, skip_plain, skip_last}
+use Rattle.sv_reader.proofs.AnswerLaws.{next_alike}
+use Rattle.sv_reader.proofs.PartLaws.{kind_next, name_law, text_law}
+use Rattle.sv_reader.proofs.AnswerLaws.{anything}
+use Rattle.sv_reader.proofs.ReadLaws.{Plain, Means, leaf, Either, Left, Right, either, same_plain}
+use Rattle.sv_reader.proofs.PartLaws.{both_assoc, assoc_both}
 use Rattle.sv_workload.specs.declared.written.Row.{Row}
 use Rattle.sv_workload.specs.Grammar.{number, IsInteger, Plain as PlainInteger, Negated, value, row}
 use Rattle.sv_workload.specs.Reading.{natural_of, natural_at, integer_at, value_at, value_step, row_at}
 use Rattle.sv_workload.proofs.ElementLaws.{list_plain}
+use Rattle.sv_reader.proofs.MatterLaws.{bare}
 
 abbrev pub Natural : ℤ → List Token → Type 0
 Natural = Means (λ token. natural_of token.kind)
 
-pub natural_law : Plain anything Natural natural_at
-natural_law = leaf anything (λ token. natural_of token.kind) (token_of (Number (pos 0))) (pos 0) refl
+pub natural_law : Plain bare anything Natural natural_at
+natural_law = leaf bare anything (λ token. natural_of token.kind) (token_of (Number (pos 0))) (pos 0) refl
 
 -- a number that was read
 pub record IsNumber (z : ℤ) (k : TokenKind) : Type 0 where
@@ -59,7 +62,7 @@ of_number n l is = record { token = is.token; only = is.only; holds = ap natural
 abbrev signed : ℤ → List Token → Type 0
 signed = Made (λ z. neg_ℤ z) (λ z. kind (Mark Minus) · Natural z)
 
-pub integer_law : Plain anything IsInteger integer_at
+pub integer_law : Plain bare anything IsInteger integer_at
 unfolding integer_at
 integer_law = same_plain
     (either (is_next (Mark Minus)) (next_alike (λ token. is_kind (Mark Minus) token.kind)) (skip_plain (Mark Minus) (λ z. neg_ℤ z) (take_last (λ z. neg_ℤ z) natural_law)) natural_law
@@ -91,10 +94,10 @@ pub no_text : (z : ℤ) (l rest : List Token) → IsInteger z l → is_text (l +
 no_text _ _ rest (PlainInteger n l is) = ap (λ x. is_text (x ++ rest)) is.only ∙ ap (λ k. is_some (bytes_of k)) is.holds
 no_text _ _ rest (Negated n l is) = ap (λ x. is_text (x ++ rest)) (is.whole ∙ ap (λ x. x ++ is.back) is.first.only) ∙ ap (λ k. is_some (bytes_of k)) is.first.holds
 
-pub value_law : Plain anything value value_at
+pub value_law : Plain bare anything value value_at
 unfolding value_at
 value_law = same_plain
-    (either is_text (next_alike (λ token. is_some (bytes_of token.kind))) (take_last (λ t. vals.Text t) (text_law anything)) (take_last (λ z. vals.Int z) integer_law)
+    (either is_text (next_alike (λ token. is_some (bytes_of token.kind))) (take_last (λ t. vals.Text t) (text_law bare anything)) (take_last (λ z. vals.Int z) integer_law)
     (λ v front rest m. ap (λ l. is_text (l ++ rest)) m.is.only ∙ ap (λ k. is_some (bytes_of k)) m.is.holds) (λ v front rest m ends. no_text m.«from» front rest m.is)
     (λ tokens fault t is. is) (λ tokens fault t is. is))
     into out
@@ -141,7 +144,7 @@ pub value_comma : (v : Val) (token : Token) (l : List Token) → value v (token 
 value_comma (vals.Int z) token l is e = integer_comma z (token ∷ l) is token l refl e
 value_comma (vals.Text t) token l is e = text_comma t (token ∷ l) is token l refl e
 
-pub values_law : Plain anything (list value) (list_at value_step [])
+pub values_law : Plain bare anything (list value) (list_at value_step [])
 unfolding value_step
 values_law = list_plain value_law value_some value_comma
 
@@ -151,10 +154,10 @@ row_parts x = name x.0 · mark LeftParen · list value x.1.0 · mark Semi
 abbrev row_made : Ident → List Val × Unit {0} → Row
 row_made table x = record { table = table; values = x.0 }
 
-pub row_law : Plain anything row row_at
+pub row_law : Plain bare anything row row_at
 unfolding row_at
 row_law = same_plain
-    (take_plain row_made (name_law anything) (λ table. skip_plain (Mark LeftParen) (row_made table)
-    (take_plain (λ vs (last : Unit {0}). row_made table (vs, last)) values_law (λ vs. skip_last anything (Mark Semi) (row_made table (vs, tt))))))
+    (take_plain row_made (name_law bare anything) (λ table. skip_plain (Mark LeftParen) (row_made table)
+    (take_plain (λ vs (last : Unit {0}). row_made table (vs, last)) values_law (λ vs. skip_last bare anything (Mark Semi) (row_made table (vs, tt))))))
     (λ r l m. subst (λ x. row x l) (sym m.made) (both_map (λ x is. is) (λ x is. both_map (λ y is. is) (λ y is. assoc_both is) is) m.is))
     (λ r l is. record { «from» = (r.table, (r.values, tt)); is = both_map (λ x is. is) (λ x is. both_map (λ y is. is) (λ y is. both_assoc is) is) is; made = refl })

@@ -4,10 +4,10 @@ use Rattle.sv_lex.specs.declared.tokens.Token.{Token}
 use Rattle.sv_app.specs.declared.requests.Request.{Request}
 use Rattle.sv_app.specs.Schema.{Declaration}
 use Rattle.sv_app.specs.Trees.{Transaction}
-use Rattle.sv_schema_reader.specs.declared.faults.Fault.{Fault}
-use Rattle.sv_schema_reader.specs.Grammar.{◌·◌}
-use Rattle.sv_schema_reader.specs.Reading.{Read, ◌>>=◌}
-use Rattle.sv_schema_reader.proofs.ReadLaws.{Bound, bound, same_read}
+use Rattle.sv_reader.specs.declared.faults.ReadFault.{ReadFault}
+use Rattle.sv_reader.specs.Grammar.{◌·◌}
+use Rattle.sv_reader.specs.Reading.{Read, ◌>>=◌}
+use Rattle.sv_reader.proofs.AnswerLaws.{Bound, bound, same_read}
 use Rattle.sv_workload.specs.declared.lines.Steps.{Steps}
 use Rattle.sv_workload.specs.declared.parts.Work.{Work}
 use Rattle.sv_workload.specs.declared.parts.Work.TheVariants as works
@@ -57,7 +57,7 @@ module _ (schema : List Declaration) (txns : List Transaction) (count : ℕ) (to
     Replayed : (rest : List Token) (all : Steps) → front_from count tokens ≡ Ok ((ReplayHead, g), rest) → lines_from schema txns (sites_in g) no_steps rest ≡ Ok (all, []) → work ≡ works.Replay all.steps → LastRead g work
     Ran : (rest : List Token) (sessions : List (List Request)) → front_from count tokens ≡ Ok ((RunHead, g), rest) → sessions_from txns [] rest ≡ Ok (sessions, []) → work ≡ works.Sessions sessions → LastRead g work
 
-  pub data LastFails (fault : Fault) : Type 0 where
+  pub data LastFails (fault : ReadFault) : Type 0 where
     InFront : front_from count tokens ≡ Err fault → LastFails fault
     InReplay : (g : Given) (rest : List Token) → front_from count tokens ≡ Ok ((ReplayHead, g), rest) → lines_from schema txns (sites_in g) no_steps rest ≡ Err fault → LastFails fault
     InRun : (g : Given) (rest : List Token) → front_from count tokens ≡ Ok ((RunHead, g), rest) → sessions_from txns [] rest ≡ Err fault → LastFails fault
@@ -90,7 +90,7 @@ module _ (schema : List Declaration) (txns : List Transaction) (count : ℕ) (to
       by_front : Bound (front_from count tokens) (behind schema txns) (Ok ((g, work), left)) → LastRead g work
       by_front b = by_head b.item.0 b.item.1 b.rest b.is b.left
 
-  pub last_fails : (fault : Fault) → last_from schema txns count tokens ≡ Err fault → LastFails fault
+  pub last_fails : (fault : ReadFault) → last_from schema txns count tokens ≡ Err fault → LastFails fault
   unfolding last_from
   last_fails fault e = by_front (front_from count tokens) refl e
     where
@@ -199,7 +199,7 @@ module _ (schema : List Declaration) (txns : List Transaction) (count : ℕ) (to
       (sessions_judged txns rest).right sessions [] s code here (behind_out schema txns count tokens RunHead g rest read code here refused)
 
   -- a fault behind the front is the first refusal
-  behind_found : {A : Type 0} {L : A → List Token → Type 0} (head : PartHead) (g : Given) (rest : List Token) → front_from count tokens ≡ Ok ((head, g), rest) → (fault : Fault)
+  behind_found : {A : Type 0} {L : A → List Token → Type 0} (head : PartHead) (g : Given) (rest : List Token) → front_from count tokens ≡ Ok ((head, g), rest) → (fault : ReadFault)
       → Found L (BehindRefused schema txns count tokens head (sites_in g) rest) fault → LastFound schema txns count tokens fault
   behind_found head g rest read fault found = record {
     here = found.here;
@@ -211,7 +211,7 @@ module _ (schema : List Declaration) (txns : List Transaction) (count : ℕ) (to
   }
 
   -- a fault is the first refusal
-  pub last_wrong : tokens ≢ [] → (fault : Fault) → LastFails fault → LastFound schema txns count tokens fault
+  pub last_wrong : tokens ≢ [] → (fault : ReadFault) → LastFails fault → LastFound schema txns count tokens fault
   last_wrong some fault (InFront read) = front_wrong schema txns count tokens some fault read
   last_wrong some fault (InReplay g rest read s) = behind_found ReplayHead g rest read fault ((lines_judged schema txns (sites_in g) rest).wrong fault s)
   last_wrong some fault (InRun g rest read s) = behind_found RunHead g rest read fault ((sessions_judged txns rest).wrong fault s)

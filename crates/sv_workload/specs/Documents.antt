@@ -18,7 +18,7 @@ use Rattle.sv_app.specs.Valid.{Valid}
 use Rattle.sv_app.specs.TxnNumbers.{txn_names}
 use Rattle.sv_check.specs.Initial.{initial_tables}
 use Rattle.sv_check.specs.Initial as checked
-use Rattle.sv_schema_reader.specs.Refused.{spot_of}
+use Rattle.sv_reader.specs.Places.{spot_of}
 use Rattle.sv_workload.specs.declared.parts.Parts.{Parts}
 use Rattle.sv_workload.specs.declared.parts.Step.{Step}
 use Rattle.sv_workload.specs.declared.parts.Step.TheVariants as steps

@@ -7,7 +7,7 @@ use Rattle.sv_lex.specs.declared.tokens.Token.{Token}
 use Rattle.sv_lex.specs.declared.tokens.TokenKind.TheVariants.{Number}
 use Rattle.sv_app.specs.declared.requests.Arg.{Arg}
 use Rattle.sv_app.specs.declared.requests.Arg.TheVariants as args
-use Rattle.sv_schema_reader.specs.Grammar.{◌·◌, nothing, kind, word, mark, name, text, separated}
+use Rattle.sv_reader.specs.Grammar.{◌·◌, nothing, kind, word, mark, name, text, separated}
 use Rattle.sv_workload.specs.declared.written.Row.{Row}
 use Rattle.sv_workload.specs.declared.written.Call.{Call}
 use Rattle.sv_workload.specs.declared.written.Setting.{Setting}

@@ -10,7 +10,7 @@ use Rattle.sv_app.specs.declared.refusals.Code.TheVariants.{Syntax, Unknown, Twi
 use Rattle.sv_app.specs.Lookups.{table_of}
 use Rattle.sv_app.specs.Schema.{Declaration}
 use Rattle.sv_effect.specs.TablesOfCut.{init_place}
-use Rattle.sv_schema_reader.specs.Grammar.{IsName}
+use Rattle.sv_reader.specs.Grammar.{IsName}
 use Rattle.sv_workload.specs.Elements.{IsMisplaced, Refusals, Among}
 use Rattle.sv_workload.specs.Fits.{RowFits}
 use Rattle.sv_workload.specs.Grammar.{row, init_head, init_part}

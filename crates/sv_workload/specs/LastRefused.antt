@@ -13,7 +13,7 @@ use Rattle.sv_app.specs.declared.requests.Arg.{Arg}
 use Rattle.sv_app.specs.Lookups.{table_of}
 use Rattle.sv_app.specs.Schema.{Declaration}
 use Rattle.sv_app.specs.Trees.{Transaction}
-use Rattle.sv_schema_reader.specs.Grammar.{◌·◌, nothing, word, mark, name}
+use Rattle.sv_reader.specs.Grammar.{◌·◌, nothing, word, mark, name}
 use Rattle.sv_workload.specs.Elements.{IsMisplaced, Refusals, Among}
 use Rattle.sv_workload.specs.Fits.{CallFits, txn_of}
 use Rattle.sv_workload.specs.Grammar.{many, number, IsInteger, argument, call, setting_word, setting, line, session_head, entry, session, replay_head, run_head}

@@ -4,9 +4,10 @@ pub mod Fits
 pub mod Grammar
 pub mod InitRefused
 pub mod LastRefused
+pub mod Laws
+pub mod LineReading
 pub mod Reading
 pub mod Rows
 pub mod SessionReading
 pub mod Stops
 pub mod Written
-pub mod LineReading

@@ -6,8 +6,8 @@ use Rattle.sv_app.specs.declared.refusals.Code.TheVariants.{Unknown, Many, BadSt
 use Rattle.sv_app.specs.Lookups.{table_of}
 use Rattle.sv_app.specs.Schema.{Declaration}
 use Rattle.sv_app.specs.Trees.{Transaction}
-use Rattle.sv_schema_reader.specs.declared.faults.Fault.{Fault}
-use Rattle.sv_schema_reader.specs.Reading.{Read, ◌>>=◌, next, is_some, is_name, name_of, given, turns_at}
+use Rattle.sv_reader.specs.declared.faults.ReadFault.{ReadFault}
+use Rattle.sv_reader.specs.Reading.{Read, ◌>>=◌, next, is_some, is_name, name_of, given, turns_at}
 use Rattle.sv_workload.specs.declared.lines.PlainPacket.{PlainPacket}
 use Rattle.sv_workload.specs.declared.lines.PlainPacket.TheVariants as plain_packets
 use Rattle.sv_workload.specs.declared.lines.PlainStep.{PlainStep}
@@ -46,7 +46,7 @@ verb_full s _ = false
 abbrev pub is_full : Steps → Verb → Bool
 is_full s verb = nat_le 65536 (length s.steps) || verb_full s verb
 
-abbrev pub full_mark : Steps → Verb → List Token → Option Fault
+abbrev pub full_mark : Steps → Verb → List Token → Option ReadFault
 full_mark s verb tokens = given (is_full s verb) (record { code = Many; left = length tokens })
 
 -- the greatest session or site
@@ -60,45 +60,45 @@ abbrev pub most_packet : ℕ
 most_packet = 4294967295
 
 -- what is refused behind the first word of a packet
-abbrev pub sent_mark : ℕ → Option Color → List Token → Option Fault
+abbrev pub sent_mark : ℕ → Option Color → List Token → Option ReadFault
 sent_mark sites None tokens = None
 sent_mark sites (Some colors.Blue) tokens = or_else (out_mark BadStep 1 sites tokens) (from_read (count_at tokens) (λ r. out_mark BadStep 0 most_packet r))
 sent_mark sites (Some colors.Red) tokens = out_mark BadStep 0 most_packet tokens
 
-abbrev pub packet_mark : ℕ → List Token → Option Fault
+abbrev pub packet_mark : ℕ → List Token → Option ReadFault
 packet_mark sites [] = None
 packet_mark sites (token ∷ others) = sent_mark sites (color_of token) others
 
 -- the name of a table that isn't there
-abbrev pub unnamed_mark : List Declaration → Option Ident → List Token → Option Fault
+abbrev pub unnamed_mark : List Declaration → Option Ident → List Token → Option ReadFault
 unnamed_mark schema None tokens = None
 unnamed_mark schema (Some table) tokens = given (not (is_some (table_of schema table))) (record { code = Unknown; left = length tokens })
 
-abbrev pub table_mark : List Declaration → List Token → Option Fault
+abbrev pub table_mark : List Declaration → List Token → Option ReadFault
 table_mark schema [] = None
 table_mark schema (token ∷ others) = unnamed_mark schema (name_of token) (token ∷ others)
 
 -- what is refused of a call, if one begins here
-abbrev pub asked_mark : List Transaction → List Token → Option Fault
+abbrev pub asked_mark : List Transaction → List Token → Option ReadFault
 asked_mark txns tokens = if is_name tokens then call_mark txns tokens else None
 
 -- what is refused behind the number of a step
-abbrev pub tail_mark : List Declaration → List Transaction → ℕ → Verb → List Token → Option Fault
+abbrev pub tail_mark : List Declaration → List Transaction → ℕ → Verb → List Token → Option ReadFault
 tail_mark schema txns sites verbs.Ask tokens = asked_mark txns tokens
 tail_mark schema txns sites verbs.Deliver tokens = packet_mark sites tokens
 tail_mark schema txns sites verbs.Show tokens = table_mark schema tokens
 tail_mark schema txns sites _ tokens = None
 
 -- what is refused behind the first word of a step
-abbrev pub number_mark : List Declaration → List Transaction → ℕ → Verb → List Token → Option Fault
+abbrev pub number_mark : List Declaration → List Transaction → ℕ → Verb → List Token → Option ReadFault
 number_mark schema txns sites verb tokens = or_else (out_mark BadStep 1 (most_number sites verb) tokens) (from_read (count_at tokens) (λ r. tail_mark schema txns sites verb r))
 
-abbrev pub verb_mark : List Declaration → List Transaction → ℕ → Steps → Option Verb → Token → List Token → Option Fault
+abbrev pub verb_mark : List Declaration → List Transaction → ℕ → Steps → Option Verb → Token → List Token → Option ReadFault
 verb_mark schema txns sites s None token others = None
 verb_mark schema txns sites s (Some verb) token others = or_else (full_mark s verb (token ∷ others)) (number_mark schema txns sites verb others)
 
 -- what is refused of a step that begins here, besides the grammar
-abbrev pub line_mark : List Declaration → List Transaction → ℕ → Steps → List Token → Option Fault
+abbrev pub line_mark : List Declaration → List Transaction → ℕ → Steps → List Token → Option ReadFault
 line_mark schema txns sites s [] = None
 line_mark schema txns sites s (token ∷ others) = verb_mark schema txns sites s (verb_of token) token others
 

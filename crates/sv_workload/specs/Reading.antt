@@ -20,8 +20,8 @@ use Rattle.sv_app.specs.Lookups.{table_of}
 use Rattle.sv_app.specs.Schema.{Declaration}
 use Rattle.sv_app.specs.Trees.{Transaction}
 use Rattle.sv_effect.specs.TablesOfCut.{init_place, is_place}
-use Rattle.sv_schema_reader.specs.declared.faults.Fault.{Fault}
-use Rattle.sv_schema_reader.specs.Reading.{Read, ◌>>=◌, refuse, next, is_some, by_word, is_kind, is_next, given, token_at, kind_at, name_at, name_of, is_name, text_of, is_text, list_at, turns_at}
+use Rattle.sv_reader.specs.declared.faults.ReadFault.{ReadFault}
+use Rattle.sv_reader.specs.Reading.{Read, ◌>>=◌, refuse, next, is_some, by_word, is_kind, is_next, given, token_at, kind_at, name_at, name_of, is_name, text_of, is_text, list_at, turns_at}
 use Rattle.sv_workload.specs.declared.written.Call.{Call}
 use Rattle.sv_workload.specs.declared.written.Color.{Color}
 use Rattle.sv_workload.specs.declared.written.Color.TheVariants as colors
@@ -39,12 +39,12 @@ use Rattle.sv_workload.specs.Written.{Sent, Blue, Red, Line, Ask, Order, Deliver
 use Rattle.sv_workload.specs.Rows.{init_row}
 
 -- a fault that is known before anything is read comes first
-abbrev pub settled : {A : Type 0} → Option Fault → Read A → Read A
+abbrev pub settled : {A : Type 0} → Option ReadFault → Read A → Read A
 settled None read = read
 settled (Some fault) read = Err fault
 
 -- a fault at the first token
-abbrev pub at_front : Option Code → List Token → Option Fault
+abbrev pub at_front : Option Code → List Token → Option ReadFault
 at_front None tokens = None
 at_front (Some code) tokens = Some (record { code = code; left = length tokens })
 
@@ -167,7 +167,7 @@ is_out least most None = false
 is_out least most (Some z) = nat_lt (nat_abs z) least || nat_lt most (nat_abs z)
 
 -- a fault at a number that stands here outside these bounds
-abbrev pub out_mark : Code → ℕ → ℕ → List Token → Option Fault
+abbrev pub out_mark : Code → ℕ → ℕ → List Token → Option ReadFault
 out_mark code least most [] = None
 out_mark code least most (token ∷ others) = given (is_out least most (natural_of token.kind)) (record { code = code; left = length (token ∷ others) })
 
@@ -183,20 +183,20 @@ with_setting g (Rows, n) = record g { rows = or_else g.rows (Some n) }
 with_setting g (Changes, n) = record g { changes = or_else g.changes (Some n) }
 
 -- a setting that is given again
-abbrev pub again_mark : Option ℕ → List Token → Option Fault
+abbrev pub again_mark : Option ℕ → List Token → Option ReadFault
 again_mark None tokens = None
 again_mark (Some n) tokens = at_front (Some Twice) tokens
 
 -- what is refused of a setting that begins here, besides the grammar
-abbrev pub number_mark : ℕ → Setting → List Token → Option Fault
+abbrev pub number_mark : ℕ → Setting → List Token → Option ReadFault
 number_mark count which (word ∷ mark ∷ others) = if is_kind (Mark Eq) mark.kind then out_mark Many (least_of count which) (most_of which) others else None
 number_mark count which _ = None
 
-abbrev pub marks_by : ℕ → Given → Option Setting → List Token → Option Fault
+abbrev pub marks_by : ℕ → Given → Option Setting → List Token → Option ReadFault
 marks_by count g None tokens = None
 marks_by count g (Some which) tokens = or_else (again_mark (given_of which g) tokens) (number_mark count which tokens)
 
-abbrev pub setting_mark : ℕ → Given → List Token → Option Fault
+abbrev pub setting_mark : ℕ → Given → List Token → Option ReadFault
 setting_mark count g [] = None
 setting_mark count g (token ∷ others) = marks_by count g (setting_of token) (token ∷ others)
 
@@ -373,10 +373,10 @@ opening_at tokens = name_at tokens >>= λ txn r1. kind_at (Mark LeftParen) r1 >>
 unfoldable pub long_call : List Token → Option (List Token)
 long_call tokens = from_read (opening_at tokens) (λ r. long_among r)
 
-abbrev pub long_fault : Option (List Token) → Option Fault
+abbrev pub long_fault : Option (List Token) → Option ReadFault
 long_fault None = None
 long_fault (Some here) = Some (record { code = Many; left = length here })
 
 -- what is refused of a call that begins here, besides the grammar
-abbrev pub call_mark : List Transaction → List Token → Option Fault
+abbrev pub call_mark : List Transaction → List Token → Option ReadFault
 call_mark txns tokens = or_else (at_front (call_code (txn_meant txns tokens) (call_at tokens)) tokens) (long_fault (long_call tokens))

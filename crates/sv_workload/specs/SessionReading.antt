@@ -6,8 +6,8 @@ use Rattle.sv_lex.specs.declared.tokens.TokenKind.TheVariants.{Name, Mark}
 use Rattle.sv_app.specs.declared.refusals.Code.TheVariants.{Many, BadStep}
 use Rattle.sv_app.specs.declared.requests.Request.{Request}
 use Rattle.sv_app.specs.Trees.{Transaction}
-use Rattle.sv_schema_reader.specs.declared.faults.Fault.{Fault}
-use Rattle.sv_schema_reader.specs.Reading.{Read, ◌>>=◌, is_kind, given, kind_at, is_name, turns_at}
+use Rattle.sv_reader.specs.declared.faults.ReadFault.{ReadFault}
+use Rattle.sv_reader.specs.Reading.{Read, ◌>>=◌, is_kind, given, kind_at, is_name, turns_at}
 use Rattle.sv_workload.specs.declared.written.Call.{Call}
 use Rattle.sv_workload.specs.Documents.{request_of}
 use Rattle.sv_workload.specs.LastRefused.{total}
@@ -20,17 +20,17 @@ unfoldable pub entry_at : List Token → Read Call
 entry_at tokens = call_at tokens >>= λ c r. closing c r
 
 -- the earlier of two faults, and of two at one place the first
-abbrev pub sooner : Option Fault → Option Fault → Option Fault
+abbrev pub sooner : Option ReadFault → Option ReadFault → Option ReadFault
 sooner None second = second
 sooner (Some first) None = Some first
 sooner (Some first) (Some second) = if nat_lt first.left second.left then Some second else Some first
 
 -- no request may stand behind so many
-abbrev pub crowd_mark : ℕ → List Token → Option Fault
+abbrev pub crowd_mark : ℕ → List Token → Option ReadFault
 crowd_mark count tokens = at_front (given (nat_le 8192 count) Many) tokens
 
 -- what is refused of a call of a session behind so many requests, besides the grammar
-abbrev pub entry_mark : List Transaction → ℕ → List Token → Option Fault
+abbrev pub entry_mark : List Transaction → ℕ → List Token → Option ReadFault
 entry_mark txns count tokens = sooner (call_mark txns tokens) (crowd_mark count tokens)
 
 unfoldable pub entry_from : List Transaction → ℕ → List Token → Read Call
@@ -50,7 +50,7 @@ unfoldable pub session_head_at : List Token → Read ℕ
 session_head_at tokens = kind_at (Name (codes "session")) tokens >>= λ _ r1. count_at r1 >>= λ n r2. kind_at (Mark LeftBrace) r2 >>= λ _ r3. Ok (n, r3)
 
 -- what is refused of the head of a session behind so many others, besides the grammar
-abbrev pub session_mark : ℕ → List Token → Option Fault
+abbrev pub session_mark : ℕ → List Token → Option ReadFault
 session_mark index [] = None
 session_mark index (token ∷ others) =
     if is_kind (Name (codes "session")) token.kind then or_else (at_front (given (nat_le 64 index) Many) (token ∷ others)) (out_mark BadStep (suc index) (suc index) others)

@@ -9,9 +9,9 @@ use Rattle.sv_app.specs.Schema.{Declaration}
 use Rattle.sv_app.specs.Trees.{Transaction}
 use Rattle.sv_app.specs.Valid.{Valid}
 use Rattle.sv_check.specs.Initial.{IsFirst, initial_tables}
-use Rattle.sv_schema_reader.specs.declared.faults.Fault.{Fault}
-use Rattle.sv_schema_reader.specs.Reading.{Read, ◌>>=◌, IsLeft}
-use Rattle.sv_schema_reader.specs.Refused.{spot_of}
+use Rattle.sv_reader.specs.declared.faults.ReadFault.{ReadFault}
+use Rattle.sv_reader.specs.Reading.{Read, ◌>>=◌, IsLeft}
+use Rattle.sv_reader.specs.Places.{refusal_of}
 use Rattle.sv_workload.specs.declared.parts.Parts.{Parts}
 use Rattle.sv_workload.specs.declared.parts.Work.{Work}
 use Rattle.sv_workload.specs.declared.parts.Work.TheVariants as works
@@ -21,10 +21,6 @@ use Rattle.sv_workload.specs.declared.written.PartHead.TheVariants.{Replay as Re
 use Rattle.sv_workload.specs.LineReading.{lines_from, no_steps}
 use Rattle.sv_workload.specs.Reading.{init_from, front_from}
 use Rattle.sv_workload.specs.SessionReading.{sessions_from}
-
--- the refusal of a fault
-abbrev pub refusal_of : List Token → Spot → Fault → Refusal
-refusal_of tokens end fault = record { spot = spot_of end (drop (length tokens - fault.left) tokens); code = fault.code }
 
 -- the row of this number breaks an invariant
 pub record IsBad (schema : List Declaration) (rows : List InitRow) (refusal : Refusal) : Type 0 where
@@ -37,7 +33,7 @@ pub record IsBad (schema : List Declaration) (rows : List InitRow) (refusal : Re
   pub wrong : Valid schema (initial_tables rows) → ⊥
 
 pub data InitStops (schema : List Declaration) (tokens : List Token) (end : Spot) (refusal : Refusal) : Type 0 where
-  ByFault : (fault : Fault) → init_from schema tokens ≡ Err fault → refusal ≡ refusal_of tokens end fault → InitStops schema tokens end refusal
+  ByFault : (fault : ReadFault) → init_from schema tokens ≡ Err fault → refusal ≡ refusal_of tokens end fault → InitStops schema tokens end refusal
   ByRow : (rows : List InitRow) (rest : List Token) → init_from schema tokens ≡ Ok (rows, rest) → IsBad schema rows refusal → InitStops schema tokens end refusal
 
 -- valid rows, and how many tokens are left behind them
@@ -76,6 +72,6 @@ pub record LastKept (schema : List Declaration) (txns : List Transaction) (rows 
   pub made : parts ≡ set_parts rows given work
 
 pub record LastStops (schema : List Declaration) (txns : List Transaction) (count : ℕ) (tokens : List Token) (end : Spot) (refusal : Refusal) : Type 0 where
-  pub fault : Fault
+  pub fault : ReadFault
   pub read : last_from schema txns count tokens ≡ Err fault
   pub place : refusal ≡ refusal_of tokens end fault

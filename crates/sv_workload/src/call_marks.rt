@@ -13,7 +13,7 @@ use crate::rows::is_named;
 use std::alloc::Global;
 use sv_app::{Arg, Code, Ident, Txn, Ty};
 use sv_lex::Token;
-use sv_schema_reader::{Fault, Halt, Reader};
+use sv_reader::{ReadFault, ReadStop, Reader};
 use sv_value::NoMemory;
 
 /// The place of the first transaction of that name.
@@ -85,8 +85,8 @@ fn misfit(alloc: Global, txn: &Txn, tokens: &[Token]) -> Result<Option<Code>, No
             }
             Ok(Some(Code::Typing))
         }
-        Err(Halt::Faulty(_)) => Ok(None),
-        Err(Halt::NoMemory) => Err(NoMemory),
+        Err(ReadStop::Faulty(_)) => Ok(None),
+        Err(ReadStop::NoMemory) => Err(NoMemory),
     }
 }
 
@@ -101,11 +101,15 @@ fn call_code(alloc: Global, txns: &[Txn], tokens: &[Token]) -> Result<Option<Cod
 }
 
 /// What is refused of the call that begins here, besides the grammar.
-pub fn call_mark(alloc: Global, txns: &[Txn], tokens: &[Token]) -> Result<Option<Fault>, NoMemory>
+pub fn call_mark(
+    alloc: Global,
+    txns: &[Txn],
+    tokens: &[Token],
+) -> Result<Option<ReadFault>, NoMemory>
     ensures { IfOk result (λ mark. mark ≡ call_mark (transactions_of txns.now) tokens.now) }
 {
     match call_code(alloc, txns, tokens) {
-        Ok(Some(code)) => Ok(Some(Fault {
+        Ok(Some(code)) => Ok(Some(ReadFault {
             code,
             left: tokens.len(),
         })),

@@ -1,7 +1,7 @@
 ghost use Rattle.std.specs.Prelude.{◌≡◌};
 ghost use Rattle.sv_lex.specs.declared.marks.Mark.TheVariants.{RightBracket, RightParen};
 ghost use Rattle.sv_lex.specs.declared.tokens.TokenKind.TheVariants.{Mark as IsMark};
-ghost use Rattle.sv_schema_reader.specs.Reading.{Reads};
+ghost use Rattle.sv_reader.specs.Reading.{Reads};
 ghost use Rattle.sv_workload.specs.Reading.{integer_at, comma_before, more_to, integers_at, arg_of, argument_at, listed_to, call_at};
 
 use crate::values::{integer, value};
@@ -9,11 +9,11 @@ use crate::written::Call;
 use std::alloc::Global;
 use sv_app::Arg;
 use sv_lex::Mark;
-use sv_schema_reader::{Halt, Reader};
+use sv_reader::{ReadStop, Reader};
 use sv_value::{List, Val};
 
 /// Reads a comma and an integer.
-fn next_integer(reader: &mut Reader<'_>) -> Result<i64, Halt>
+fn next_integer(reader: &mut Reader<'_>) -> Result<i64, ReadStop>
     ensures { Reads (λ n. n) result reader.new.rest.now (comma_before integer_at reader.old.rest.now) }
 {
     reader.mark(Mark::Comma)?;
@@ -22,7 +22,7 @@ fn next_integer(reader: &mut Reader<'_>) -> Result<i64, Halt>
 
 /// Reads the integers behind these, up to the bracket.
 #[tactic(auto, using(crate::proofs::CallTurnLaws::integers))]
-fn more_integers(reader: &mut Reader<'_>, integers: List<i64>) -> Result<List<i64>, Halt>
+fn more_integers(reader: &mut Reader<'_>, integers: List<i64>) -> Result<List<i64>, ReadStop>
     ensures { Reads (λ ns. ns) result reader.new.rest.now (more_to (IsMark RightBracket) integer_at integers reader.old.rest.now) }
 {
     let mut read = integers;
@@ -36,7 +36,7 @@ fn more_integers(reader: &mut Reader<'_>, integers: List<i64>) -> Result<List<i6
 
 /// Reads integers, if there are any, up to the bracket.
 #[tactic(auto, unfolding(crate::specs::Reading::integers_at))]
-fn integers(alloc: Global, reader: &mut Reader<'_>) -> Result<List<i64>, Halt>
+fn integers(alloc: Global, reader: &mut Reader<'_>) -> Result<List<i64>, ReadStop>
     ensures { Reads (λ ns. ns) result reader.new.rest.now (integers_at reader.old.rest.now) }
 {
     let mut integers = List::new(alloc);
@@ -61,7 +61,7 @@ fn arg_of(value: Val) -> Arg
 
 /// Reads an argument.
 #[tactic(auto, unfolding(crate::specs::Reading::argument_at))]
-pub fn argument(alloc: Global, reader: &mut Reader<'_>) -> Result<Arg, Halt>
+pub fn argument(alloc: Global, reader: &mut Reader<'_>) -> Result<Arg, ReadStop>
     ensures { Reads (λ a. a) result reader.new.rest.now (argument_at reader.old.rest.now) }
 {
     if reader.is_mark(Mark::LeftBracket) {
@@ -72,7 +72,7 @@ pub fn argument(alloc: Global, reader: &mut Reader<'_>) -> Result<Arg, Halt>
 }
 
 /// Reads a comma and an argument.
-fn next_argument(alloc: Global, reader: &mut Reader<'_>) -> Result<Arg, Halt>
+fn next_argument(alloc: Global, reader: &mut Reader<'_>) -> Result<Arg, ReadStop>
     ensures { Reads (λ a. a) result reader.new.rest.now (comma_before argument_at reader.old.rest.now) }
 {
     reader.mark(Mark::Comma)?;
@@ -85,7 +85,7 @@ fn more_arguments(
     alloc: Global,
     reader: &mut Reader<'_>,
     arguments: List<Arg>,
-) -> Result<List<Arg>, Halt>
+) -> Result<List<Arg>, ReadStop>
     ensures { Reads (λ arguments. arguments) result reader.new.rest.now (more_to (IsMark RightParen) argument_at arguments reader.old.rest.now) }
 {
     let mut read = arguments;
@@ -98,7 +98,7 @@ fn more_arguments(
 }
 
 /// Reads arguments, if there are any, up to the parenthesis.
-fn arguments(alloc: Global, reader: &mut Reader<'_>) -> Result<List<Arg>, Halt>
+fn arguments(alloc: Global, reader: &mut Reader<'_>) -> Result<List<Arg>, ReadStop>
     ensures { Reads (λ arguments. arguments) result reader.new.rest.now (listed_to (IsMark RightParen) argument_at reader.old.rest.now) }
 {
     let mut arguments = List::new(alloc);
@@ -113,7 +113,7 @@ fn arguments(alloc: Global, reader: &mut Reader<'_>) -> Result<List<Arg>, Halt>
 
 /// Reads a call.
 #[tactic(auto, unfolding(crate::specs::Reading::call_at))]
-pub fn call(alloc: Global, reader: &mut Reader<'_>) -> Result<Call, Halt>
+pub fn call(alloc: Global, reader: &mut Reader<'_>) -> Result<Call, ReadStop>
     ensures { Reads (λ call. call) result reader.new.rest.now (call_at reader.old.rest.now) }
 {
     let txn = reader.name()?;

@@ -1,4 +1,4 @@
-ghost use Rattle.std.specs.Prelude.{◌≡◌, ◌≤◌, ◌-◌, length, drop, Err, OnOk, IfOk, All, Ok};
+ghost use Rattle.std.specs.Prelude.{◌≡◌, ◌≤◌, ◌-◌, length, Err, OnOk, IfOk, All, Ok};
 ghost use Rattle.sv_app.specs.declared.refusals.Refusal.{Refusal as IsRefusal};
 ghost use Rattle.sv_app.specs.declared.refusals.Stop.TheVariants.{Refused};
 ghost use Rattle.sv_app.specs.Accepted.{AcceptedApp};
@@ -7,43 +7,26 @@ ghost use Rattle.sv_app.specs.Trees.{transactions_of};
 ghost use Rattle.sv_app.specs.Valid.{Valid};
 ghost use Rattle.sv_check.specs.Initial.{initial_tables};
 ghost use Rattle.sv_effect.specs.Initial.{InitFits, AreDistinct};
-ghost use Rattle.sv_schema_reader.specs.declared.faults.Fault.{Fault as IsFault};
-ghost use Rattle.sv_schema_reader.specs.declared.faults.Halt.TheVariants.{Faulty};
-ghost use Rattle.sv_schema_reader.specs.Reading.{IsLeft};
-ghost use Rattle.sv_schema_reader.specs.Refused.{spot_of};
+ghost use Rattle.sv_reader.specs.declared.faults.ReadFault.{ReadFault as IsFault};
+ghost use Rattle.sv_reader.specs.declared.faults.ReadStop.TheVariants.{Faulty};
+ghost use Rattle.sv_reader.specs.Reading.{IsLeft};
 ghost use Rattle.sv_workload.specs.Reading.{init_from};
-ghost use Rattle.sv_workload.specs.Stops.{refusal_of, IsBad, InitStops, InitKept};
+ghost use Rattle.sv_workload.specs.Stops.{IsBad, InitStops, InitKept};
 
 use crate::inits::init;
 use std::alloc::Global;
 use sv_app::{App, Code, InitRow, Refusal, Stop};
 use sv_check::check_all;
 use sv_lex::Token;
-use sv_schema_reader::{Fault, Halt, Reader};
+use sv_reader::{ReadStop, Reader, refusal_of};
 use sv_value::{List, Spot};
 
-/// Where the first of the last `left` tokens stands; the end of the document, if there is none.
-fn spot_of(tokens: &[Token], end: Spot, left: usize) -> Spot
-    ensures { result ≡ spot_of end (drop (length tokens.now - left) tokens.now) }
-{
-    match tokens.get(tokens.len().saturating_sub(left)) {
-        Some(token) => token.spot,
-        None => end,
-    }
-}
-
-/// The refusal of a fault.
-pub fn refusal_of(tokens: &[Token], end: Spot, fault: Fault) -> Refusal
-    ensures { result ≡ refusal_of tokens.now end fault }
-{
-    Refusal {
-        spot: spot_of(tokens, end, fault.left),
-        code: fault.code,
-    }
-}
-
 /// The initial rows at the front of the tokens, and how many tokens are left behind them.
-fn read_front(alloc: Global, app: &App, tokens: &[Token]) -> Result<(List<InitRow>, usize), Halt>
+fn read_front(
+    alloc: Global,
+    app: &App,
+    tokens: &[Token],
+) -> Result<(List<InitRow>, usize), ReadStop>
     requires few { length app.now.tables.items ≤ 16 }
     ensures read { IfOk result (λ read. IsLeft (init_from (schema_of app.now.tables.items) tokens.now) read.0 read.1) }
     ensures fault { (fault : IsFault) → result ≡ Err (Faulty fault) → init_from (schema_of app.now.tables.items) tokens.now ≡ Err fault }
@@ -89,7 +72,7 @@ pub fn read_init(
             Ok(()) => Ok((rows, left)),
             Err(stop) => Err(stop),
         },
-        Err(Halt::Faulty(fault)) => Err(Stop::Refused(refusal_of(tokens, end, fault))),
-        Err(Halt::NoMemory) => Err(Stop::NoMemory),
+        Err(ReadStop::Faulty(fault)) => Err(Stop::Refused(refusal_of(tokens, end, fault))),
+        Err(ReadStop::NoMemory) => Err(Stop::NoMemory),
     }
 }

@@ -3,8 +3,8 @@ ghost use Rattle.std.specs.Prelude.{None as none};
 ghost use Rattle.sv_app.specs.Schema.{schema_of};
 ghost use Rattle.sv_lex.specs.declared.marks.Mark.TheVariants.{Percents};
 ghost use Rattle.sv_lex.specs.declared.tokens.TokenKind.TheVariants.{Name as IsName, Mark as IsMark};
-ghost use Rattle.sv_schema_reader.specs.declared.faults.Halt.TheVariants.{Faulty};
-ghost use Rattle.sv_schema_reader.specs.Reading.{Reads, is_name, is_kind, name_of};
+ghost use Rattle.sv_reader.specs.declared.faults.ReadStop.TheVariants.{Faulty};
+ghost use Rattle.sv_reader.specs.Reading.{Reads, is_name, is_kind, name_of};
 ghost use Rattle.sv_workload.specs.Reading.{table_meant, as_item, row_from, row_step, rows_from, begins_init, init_from};
 ghost use Rattle.sv_workload.specs.Rows.{init_row};
 
@@ -13,14 +13,14 @@ use crate::values::row;
 use std::alloc::Global;
 use sv_app::{Code, Ident, InitRow, Table, is_reserved};
 use sv_lex::{Mark, Token, TokenKind};
-use sv_schema_reader::{Fault, Halt, Reader};
+use sv_reader::{ReadFault, ReadStop, Reader};
 use sv_value::List;
 
 /// The fault of an element that begins where so many tokens were left.
-fn fault_at(code: Code, left: usize) -> Halt
+fn fault_at(code: Code, left: usize) -> ReadStop
     ensures { result ≡ Faulty (record { code = code; left = left }) }
 {
-    Halt::Faulty(Fault { code, left })
+    ReadStop::Faulty(ReadFault { code, left })
 }
 
 /// The name that a token is, unless it is a reserved word.
@@ -58,7 +58,7 @@ fn row_of(
     tables: &[Table],
     rows: &[InitRow],
     place: usize,
-) -> Result<InitRow, Halt>
+) -> Result<InitRow, ReadStop>
     requires few { length tables.now ≤ 16 }
     requires within { place < length tables.now }
     requires meant { table_meant (schema_of tables.now) reader.old.rest.now ≡ slice_get (schema_of tables.now) place }
@@ -76,11 +76,11 @@ fn row_of(
                 None => Ok(next),
             }
         }
-        Err(Halt::Faulty(fault)) => match crowded(rows) {
+        Err(ReadStop::Faulty(fault)) => match crowded(rows) {
             Some(code) => Err(fault_at(code, start)),
-            None => Err(Halt::Faulty(fault)),
+            None => Err(ReadStop::Faulty(fault)),
         },
-        Err(Halt::NoMemory) => Err(Halt::NoMemory),
+        Err(ReadStop::NoMemory) => Err(ReadStop::NoMemory),
     }
 }
 
@@ -91,7 +91,7 @@ fn next_row(
     reader: &mut Reader<'_>,
     tables: &[Table],
     rows: &[InitRow],
-) -> Result<InitRow, Halt>
+) -> Result<InitRow, ReadStop>
     requires few { length tables.now ≤ 16 }
     ensures { Reads (λ row. row) result reader.new.rest.now (as_item (init_row (schema_of tables.now)) (row_from (schema_of tables.now) rows.now reader.old.rest.now)) }
 {
@@ -103,7 +103,7 @@ fn next_row(
 
 /// Reads all rows that stand here.
 #[tactic(auto, using(crate::proofs::TurnLaws::rows))]
-fn rows(alloc: Global, reader: &mut Reader<'_>, tables: &[Table]) -> Result<List<InitRow>, Halt>
+fn rows(alloc: Global, reader: &mut Reader<'_>, tables: &[Table]) -> Result<List<InitRow>, ReadStop>
     requires few { length tables.now ≤ 16 }
     ensures { Reads (λ rows. rows) result reader.new.rest.now (rows_from (schema_of tables.now) [] reader.old.rest.now) }
 {
@@ -145,7 +145,11 @@ fn begins_init(tokens: &[Token]) -> bool
 
 /// Reads the initial rows that stand here, if any.
 #[tactic(auto, unfolding(crate::specs::Reading::init_from))]
-pub fn init(alloc: Global, reader: &mut Reader<'_>, tables: &[Table]) -> Result<List<InitRow>, Halt>
+pub fn init(
+    alloc: Global,
+    reader: &mut Reader<'_>,
+    tables: &[Table],
+) -> Result<List<InitRow>, ReadStop>
     requires few { length tables.now ≤ 16 }
     ensures { Reads (λ rows. rows) result reader.new.rest.now (init_from (schema_of tables.now) reader.old.rest.now) }
 {

@@ -5,6 +5,7 @@ mod call_marks;
 mod calls;
 mod checked;
 mod inits;
+mod laws;
 mod line_marks;
 mod lines;
 mod longs;
@@ -17,6 +18,7 @@ mod settings;
 mod values;
 mod written;
 
+pub use laws::refused_once;
 pub use parts::{Parts, Step, Work};
 pub use reading::read_parts;
 pub use written::{Call, Color, Given, PartHead, Row, Setting, Verb};

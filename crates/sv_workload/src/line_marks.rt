@@ -15,7 +15,7 @@ use crate::written::{Color, Verb};
 use std::alloc::Global;
 use sv_app::{App, Code, Table, Txn};
 use sv_lex::Token;
-use sv_schema_reader::{Fault, Reader};
+use sv_reader::{ReadFault, Reader};
 use sv_value::NoMemory;
 
 /// The most steps of a replay.
@@ -57,7 +57,7 @@ fn most_number(sites: u64, verb: Verb) -> u64
 }
 
 /// The fault of the last number of a packet, behind another number.
-fn seq_mark(tokens: &[Token]) -> Option<Fault>
+fn seq_mark(tokens: &[Token]) -> Option<ReadFault>
     ensures { result ≡ from_read (count_at tokens.now) (λ r. out_mark BadStep 0 most_packet r) }
 {
     match tokens {
@@ -69,7 +69,7 @@ fn seq_mark(tokens: &[Token]) -> Option<Fault>
 }
 
 /// What is refused behind the first word of a packet.
-fn sent_mark(sites: u64, color: Option<Color>, tokens: &[Token]) -> Option<Fault>
+fn sent_mark(sites: u64, color: Option<Color>, tokens: &[Token]) -> Option<ReadFault>
     ensures { result ≡ sent_mark sites color tokens.now }
 {
     match color {
@@ -83,7 +83,7 @@ fn sent_mark(sites: u64, color: Option<Color>, tokens: &[Token]) -> Option<Fault
 }
 
 /// What is refused of a packet that begins here.
-fn packet_mark(sites: u64, tokens: &[Token]) -> Option<Fault>
+fn packet_mark(sites: u64, tokens: &[Token]) -> Option<ReadFault>
     ensures { result ≡ packet_mark sites tokens.now }
 {
     match tokens {
@@ -93,14 +93,14 @@ fn packet_mark(sites: u64, tokens: &[Token]) -> Option<Fault>
 }
 
 /// The fault of the name of a table that isn't there.
-fn table_mark(tables: &[Table], tokens: &[Token]) -> Option<Fault>
+fn table_mark(tables: &[Table], tokens: &[Token]) -> Option<ReadFault>
     ensures { result ≡ table_mark (schema_of tables.now) tokens.now }
 {
     match tokens {
         [token, ..] => match name_of(token) {
             Some(name) => match table_place(tables, &name) {
                 Some(_) => None,
-                None => Some(Fault {
+                None => Some(ReadFault {
                     code: Code::Unknown,
                     left: tokens.len(),
                 }),
@@ -112,7 +112,7 @@ fn table_mark(tables: &[Table], tokens: &[Token]) -> Option<Fault>
 }
 
 /// What is refused of a call, if one begins here.
-fn asked_mark(alloc: Global, txns: &[Txn], tokens: &[Token]) -> Result<Option<Fault>, NoMemory>
+fn asked_mark(alloc: Global, txns: &[Txn], tokens: &[Token]) -> Result<Option<ReadFault>, NoMemory>
     ensures { IfOk result (λ mark. mark ≡ asked_mark (transactions_of txns.now) tokens.now) }
 {
     let reader = Reader { rest: tokens };
@@ -129,7 +129,7 @@ fn tail_mark(
     sites: u64,
     verb: Verb,
     tokens: &[Token],
-) -> Result<Option<Fault>, NoMemory>
+) -> Result<Option<ReadFault>, NoMemory>
     ensures { IfOk result (λ mark. mark ≡ tail_mark (schema_of app.now.tables.items) (transactions_of app.now.txns.items) sites verb tokens.now) }
 {
     match verb {
@@ -147,7 +147,7 @@ fn number_mark(
     sites: u64,
     verb: Verb,
     tokens: &[Token],
-) -> Result<Option<Fault>, NoMemory>
+) -> Result<Option<ReadFault>, NoMemory>
     ensures { IfOk result (λ mark. mark ≡ number_mark (schema_of app.now.tables.items) (transactions_of app.now.txns.items) sites verb tokens.now) }
 {
     if let Some(fault) = out_mark(Code::BadStep, 1, most_number(sites, verb), tokens) {
@@ -168,7 +168,7 @@ pub fn line_mark(
     sites: u64,
     steps: &Steps,
     tokens: &[Token],
-) -> Result<Option<Fault>, NoMemory>
+) -> Result<Option<ReadFault>, NoMemory>
     ensures { IfOk result (λ mark. mark ≡ line_mark (schema_of app.now.tables.items) (transactions_of app.now.txns.items) sites steps.now tokens.now) }
 {
     let [token, others @ ..] = tokens else {
@@ -178,7 +178,7 @@ pub fn line_mark(
         return Ok(None);
     };
     if is_full(steps, verb) {
-        return Ok(Some(Fault {
+        return Ok(Some(ReadFault {
             code: Code::Many,
             left: tokens.len(),
         }));

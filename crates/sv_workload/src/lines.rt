@@ -1,7 +1,7 @@
 ghost use Rattle.std.specs.Prelude.{◌≡◌, ◌≤◌, length};
 ghost use Rattle.sv_app.specs.Schema.{schema_of};
 ghost use Rattle.sv_app.specs.Trees.{transactions_of};
-ghost use Rattle.sv_schema_reader.specs.Reading.{Reads, token_at};
+ghost use Rattle.sv_reader.specs.Reading.{Reads, token_at};
 ghost use Rattle.sv_workload.specs.Documents.{request_of, packet_of, step_of};
 ghost use Rattle.sv_workload.specs.LineReading.{sent_of, line_of, IsSite, IsBoundedPacket, IsBoundedLine};
 ghost use Rattle.sv_workload.specs.Reading.{verb_named, verb_of, color_of, packet_tail, packet_at, line_tail, line_at};
@@ -16,7 +16,7 @@ use crate::written::{Call, Color, Verb};
 use std::alloc::Global;
 use sv_app::{Ident, Request, Table, Txn};
 use sv_lex::{Mark, Token, TokenKind};
-use sv_schema_reader::{Halt, Reader};
+use sv_reader::{ReadStop, Reader};
 use sv_value::{List, Packet, Site};
 
 /// A packet as it is written, with numbers of any size.
@@ -78,7 +78,7 @@ pub fn verb_of(token: &Token) -> Option<Verb>
     }
 }
 
-fn verb(reader: &mut Reader<'_>) -> Result<Verb, Halt>
+fn verb(reader: &mut Reader<'_>) -> Result<Verb, ReadStop>
     ensures { Reads (λ verb. verb) result reader.new.rest.now (token_at verb_of reader.old.rest.now) }
 {
     if let [token, rest @ ..] = reader.rest {
@@ -87,7 +87,7 @@ fn verb(reader: &mut Reader<'_>) -> Result<Verb, Halt>
             return Ok(verb);
         }
     }
-    Err(Halt::Faulty(reader.misplaced()))
+    Err(ReadStop::Faulty(reader.misplaced()))
 }
 
 /// The packet that begins with a token.
@@ -108,7 +108,7 @@ pub fn color_of(token: &Token) -> Option<Color>
     }
 }
 
-fn color(reader: &mut Reader<'_>) -> Result<Color, Halt>
+fn color(reader: &mut Reader<'_>) -> Result<Color, ReadStop>
     ensures { Reads (λ color. color) result reader.new.rest.now (token_at color_of reader.old.rest.now) }
 {
     if let [token, rest @ ..] = reader.rest {
@@ -117,11 +117,11 @@ fn color(reader: &mut Reader<'_>) -> Result<Color, Halt>
             return Ok(color);
         }
     }
-    Err(Halt::Faulty(reader.misplaced()))
+    Err(ReadStop::Faulty(reader.misplaced()))
 }
 
 /// Reads the numbers of a packet.
-fn packet_tail(reader: &mut Reader<'_>, color: Color) -> Result<PlainPacket, Halt>
+fn packet_tail(reader: &mut Reader<'_>, color: Color) -> Result<PlainPacket, ReadStop>
     ensures { Reads sent_of result reader.new.rest.now (packet_tail color reader.old.rest.now) }
 {
     match color {
@@ -139,7 +139,7 @@ fn packet_tail(reader: &mut Reader<'_>, color: Color) -> Result<PlainPacket, Hal
 
 /// Reads a packet.
 #[tactic(auto, unfolding(crate::specs::Reading::packet_at))]
-fn packet(reader: &mut Reader<'_>) -> Result<PlainPacket, Halt>
+fn packet(reader: &mut Reader<'_>) -> Result<PlainPacket, ReadStop>
     ensures { Reads sent_of result reader.new.rest.now (packet_at reader.old.rest.now) }
 {
     let color = color(reader)?;
@@ -152,7 +152,7 @@ fn line_tail(
     reader: &mut Reader<'_>,
     verb: Verb,
     number: u64,
-) -> Result<PlainStep, Halt>
+) -> Result<PlainStep, ReadStop>
     ensures { Reads line_of result reader.new.rest.now (line_tail verb number reader.old.rest.now) }
 {
     let step = match verb {
@@ -179,7 +179,7 @@ fn line_tail(
 
 /// Reads a step.
 #[tactic(auto, unfolding(crate::specs::Reading::line_at))]
-pub fn line(alloc: Global, reader: &mut Reader<'_>) -> Result<PlainStep, Halt>
+pub fn line(alloc: Global, reader: &mut Reader<'_>) -> Result<PlainStep, ReadStop>
     ensures { Reads line_of result reader.new.rest.now (line_at reader.old.rest.now) }
 {
     let verb = verb(reader)?;

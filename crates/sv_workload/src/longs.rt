@@ -1,5 +1,5 @@
 ghost use Rattle.std.specs.Prelude.{◌≡◌, IfOk};
-ghost use Rattle.sv_schema_reader.specs.Reading.{Reads, next, is_some};
+ghost use Rattle.sv_reader.specs.Reading.{Reads, next, is_some};
 ghost use Rattle.sv_workload.specs.Reading.{natural_of, integer_at, argument_at, begins_integer, comma_after, left_of, long_in, list_long, long_among, opening_at, long_call, long_fault};
 
 use crate::calls::argument;
@@ -7,7 +7,7 @@ use crate::values::{integer, natural_of};
 use std::alloc::Global;
 use sv_app::{Arg, Code, Ident};
 use sv_lex::{Mark, Token};
-use sv_schema_reader::{Fault, Halt, Reader};
+use sv_reader::{ReadFault, ReadStop, Reader};
 use sv_value::NoMemory;
 
 /// The most elements of a list.
@@ -31,7 +31,7 @@ fn begins_integer(reader: &Reader<'_>) -> bool
 }
 
 /// Reads an integer and a comma.
-fn integer_comma(reader: &mut Reader<'_>) -> Result<i64, Halt>
+fn integer_comma(reader: &mut Reader<'_>) -> Result<i64, ReadStop>
     ensures { Reads (λ n. n) result reader.new.rest.now (comma_after integer_at reader.old.rest.now) }
 {
     let number = integer(reader)?;
@@ -40,7 +40,7 @@ fn integer_comma(reader: &mut Reader<'_>) -> Result<i64, Halt>
 }
 
 /// Reads an argument and a comma.
-fn argument_comma(alloc: Global, reader: &mut Reader<'_>) -> Result<Arg, Halt>
+fn argument_comma(alloc: Global, reader: &mut Reader<'_>) -> Result<Arg, ReadStop>
     ensures { Reads (λ a. a) result reader.new.rest.now (comma_after argument_at reader.old.rest.now) }
 {
     let argument = argument(alloc, reader)?;
@@ -61,8 +61,8 @@ fn long_in(reader: &mut Reader<'_>, count: usize) -> Result<Option<usize>, NoMem
     }
     match integer_comma(reader) {
         Ok(_) => long_in(reader, count - 1),
-        Err(Halt::Faulty(_)) => Ok(None),
-        Err(Halt::NoMemory) => Err(NoMemory),
+        Err(ReadStop::Faulty(_)) => Ok(None),
+        Err(ReadStop::NoMemory) => Err(NoMemory),
     }
 }
 
@@ -91,14 +91,14 @@ fn long_args(alloc: Global, reader: &mut Reader<'_>) -> Result<Option<usize>, No
         }
         match argument_comma(alloc, reader) {
             Ok(_) => {}
-            Err(Halt::Faulty(_)) => return Ok(None),
-            Err(Halt::NoMemory) => return Err(NoMemory),
+            Err(ReadStop::Faulty(_)) => return Ok(None),
+            Err(ReadStop::NoMemory) => return Err(NoMemory),
         }
     }
 }
 
 /// Reads the name of a call and its parenthesis.
-fn opening(reader: &mut Reader<'_>) -> Result<Ident, Halt>
+fn opening(reader: &mut Reader<'_>) -> Result<Ident, ReadStop>
     ensures { Reads (λ txn. txn) result reader.new.rest.now (opening_at reader.old.rest.now) }
 {
     let txn = reader.name()?;
@@ -108,20 +108,20 @@ fn opening(reader: &mut Reader<'_>) -> Result<Ident, Halt>
 
 /// The fault of the first element too many of a list in the call that begins here, if there is one.
 #[tactic(auto, using(crate::proofs::LongTurnLaws::faults))]
-pub fn long_call(alloc: Global, tokens: &[Token]) -> Result<Option<Fault>, NoMemory>
+pub fn long_call(alloc: Global, tokens: &[Token]) -> Result<Option<ReadFault>, NoMemory>
     ensures { IfOk result (λ fault. fault ≡ long_fault (long_call tokens.now)) }
 {
     let mut reader = Reader { rest: tokens };
     match opening(&mut reader) {
         Ok(_) => match long_args(alloc, &mut reader) {
-            Ok(Some(left)) => Ok(Some(Fault {
+            Ok(Some(left)) => Ok(Some(ReadFault {
                 code: Code::Many,
                 left,
             })),
             Ok(None) => Ok(None),
             Err(NoMemory) => Err(NoMemory),
         },
-        Err(Halt::Faulty(_)) => Ok(None),
-        Err(Halt::NoMemory) => Err(NoMemory),
+        Err(ReadStop::Faulty(_)) => Ok(None),
+        Err(ReadStop::NoMemory) => Err(NoMemory),
     }
 }

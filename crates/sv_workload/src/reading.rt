@@ -4,14 +4,14 @@ ghost use Rattle.sv_app.specs.declared.refusals.Stop.TheVariants.{Refused};
 ghost use Rattle.sv_app.specs.Accepted.{AcceptedApp};
 ghost use Rattle.sv_app.specs.Schema.{schema_of};
 ghost use Rattle.sv_app.specs.Trees.{transactions_of};
-ghost use Rattle.sv_schema_reader.specs.Reading.{Reads};
+ghost use Rattle.sv_reader.specs.Reading.{Reads};
 ghost use Rattle.sv_workload.specs.declared.parts.Parts.{Parts as AnyParts};
 ghost use Rattle.sv_workload.specs.declared.parts.Work.TheVariants.{Nothing};
 ghost use Rattle.sv_workload.specs.Documents.{AreParts, IsRefused, IsAnswer};
 ghost use Rattle.sv_workload.specs.Reading.{IsBounded};
 ghost use Rattle.sv_workload.specs.Stops.{sites_in, work_from, last_from, set_parts, LastKept, LastStops};
 
-use crate::checked::{read_init, refusal_of};
+use crate::checked::read_init;
 use crate::parts::{Parts, Work};
 use crate::replays::steps;
 use crate::sessions::sessions;
@@ -20,7 +20,7 @@ use crate::written::{Given, PartHead};
 use std::alloc::Global;
 use sv_app::{App, InitRow, Stop};
 use sv_lex::Token;
-use sv_schema_reader::{Halt, Reader};
+use sv_reader::{ReadStop, Reader, refusal_of};
 use sv_value::{List, Spot};
 
 /// How many rows there may be, where there are fewer initial rows and nothing else is set.
@@ -90,7 +90,7 @@ fn work(
     app: &App,
     head: PartHead,
     sites: u64,
-) -> Result<Work, Halt>
+) -> Result<Work, ReadStop>
     requires accepted { AcceptedApp (schema_of app.now.tables.items) (transactions_of app.now.txns.items) }
     requires sites { sites ≤ 8 }
     ensures { Reads (λ work. work) result reader.new.rest.now (work_from (schema_of app.now.tables.items) (transactions_of app.now.txns.items) head sites reader.old.rest.now) }
@@ -108,7 +108,7 @@ fn last(
     reader: &mut Reader<'_>,
     app: &App,
     rows: usize,
-) -> Result<(Given, Work), Halt>
+) -> Result<(Given, Work), ReadStop>
     requires accepted { AcceptedApp (schema_of app.now.tables.items) (transactions_of app.now.txns.items) }
     ensures read { Reads (λ last. last) result reader.new.rest.now (last_from (schema_of app.now.tables.items) (transactions_of app.now.txns.items) rows reader.old.rest.now) }
     ensures bounded { IfOk result (λ last. IsBounded last.0) }
@@ -134,8 +134,8 @@ fn read_last(
     let mut reader = Reader { rest: tokens };
     match last(alloc, &mut reader, app, init.len()) {
         Ok((given, work)) => Ok(set_parts(init, &given, work)),
-        Err(Halt::Faulty(fault)) => Err(Stop::Refused(refusal_of(tokens, end, fault))),
-        Err(Halt::NoMemory) => Err(Stop::NoMemory),
+        Err(ReadStop::Faulty(fault)) => Err(Stop::Refused(refusal_of(tokens, end, fault))),
+        Err(ReadStop::NoMemory) => Err(Stop::NoMemory),
     }
 }
 

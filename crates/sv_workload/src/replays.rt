@@ -1,7 +1,7 @@
 ghost use Rattle.std.specs.Prelude.{◌≡◌, ◌≤◌, length, IfOk};
 ghost use Rattle.sv_app.specs.Schema.{schema_of};
 ghost use Rattle.sv_app.specs.Trees.{transactions_of};
-ghost use Rattle.sv_schema_reader.specs.Reading.{Reads};
+ghost use Rattle.sv_reader.specs.Reading.{Reads};
 ghost use Rattle.sv_workload.specs.Documents.{step_of};
 ghost use Rattle.sv_workload.specs.LineReading.{line_from, lines_from, step_asks, step_shows, with_step, no_steps, is_more, IsCounted};
 ghost use Rattle.sv_workload.specs.Reading.{as_item};
@@ -12,7 +12,7 @@ use crate::parts::Step;
 use std::alloc::Global;
 use sv_app::App;
 use sv_lex::Token;
-use sv_schema_reader::{Halt, Reader};
+use sv_reader::{ReadStop, Reader};
 use sv_value::{List, NoMemory};
 
 /// Whether something stands here.
@@ -69,25 +69,30 @@ fn next_step(
     app: &App,
     sites: u64,
     steps: &Steps,
-) -> Result<Step, Halt>
+) -> Result<Step, ReadStop>
     requires tables { length app.now.tables.items ≤ 16 }
     requires txns { length app.now.txns.items ≤ 32 }
     requires sites { sites ≤ 8 }
     ensures { Reads (λ step. step) result reader.new.rest.now (as_item (step_of (schema_of app.now.tables.items) (transactions_of app.now.txns.items)) (line_from (schema_of app.now.tables.items) (transactions_of app.now.txns.items) sites steps.now reader.old.rest.now)) }
 {
     match line_mark(alloc, app, sites, steps, reader.rest) {
-        Ok(Some(fault)) => Err(Halt::Faulty(fault)),
+        Ok(Some(fault)) => Err(ReadStop::Faulty(fault)),
         Ok(None) => match line(alloc, reader) {
             Ok(step) => Ok(step_of(&app.tables, &app.txns, step)),
             Err(halt) => Err(halt),
         },
-        Err(NoMemory) => Err(Halt::NoMemory),
+        Err(NoMemory) => Err(ReadStop::NoMemory),
     }
 }
 
 /// Reads all steps up to the end of the document, for so many sites.
 #[tactic(auto, using(crate::proofs::LineTurnLaws::lines))]
-pub fn steps(alloc: Global, reader: &mut Reader<'_>, app: &App, sites: u64) -> Result<Steps, Halt>
+pub fn steps(
+    alloc: Global,
+    reader: &mut Reader<'_>,
+    app: &App,
+    sites: u64,
+) -> Result<Steps, ReadStop>
     requires tables { length app.now.tables.items ≤ 16 }
     requires txns { length app.now.txns.items ≤ 32 }
     requires sites { sites ≤ 8 }

@@ -1,6 +1,6 @@
 ghost use Rattle.std.specs.Prelude.{◌≡◌, ◌≤◌, ◌+◌, IfOk, length, []};
 ghost use Rattle.sv_app.specs.Trees.{transactions_of};
-ghost use Rattle.sv_schema_reader.specs.Reading.{Reads};
+ghost use Rattle.sv_reader.specs.Reading.{Reads};
 ghost use Rattle.sv_workload.specs.Documents.{request_of};
 ghost use Rattle.sv_workload.specs.LineReading.{is_more};
 ghost use Rattle.sv_workload.specs.Reading.{as_item};
@@ -15,7 +15,7 @@ use crate::written::Call;
 use std::alloc::Global;
 use sv_app::{Code, Request, Txn};
 use sv_lex::{Mark, Token};
-use sv_schema_reader::{Fault, Halt, Reader};
+use sv_reader::{ReadFault, ReadStop, Reader};
 use sv_value::{List, NoMemory};
 
 /// The most requests of a document.
@@ -40,7 +40,7 @@ pub fn request_of(txns: &[Txn], call: Call) -> Request
 }
 
 /// The earlier of two faults, and of two at one place the first.
-fn sooner(first: Option<Fault>, second: Option<Fault>) -> Option<Fault>
+fn sooner(first: Option<ReadFault>, second: Option<ReadFault>) -> Option<ReadFault>
     ensures { result ≡ sooner first second }
 {
     match (first, second) {
@@ -51,11 +51,11 @@ fn sooner(first: Option<Fault>, second: Option<Fault>) -> Option<Fault>
 }
 
 /// The fault of a request behind so many, if it is one too many.
-fn crowd_mark(requests: usize, tokens: &[Token]) -> Option<Fault>
+fn crowd_mark(requests: usize, tokens: &[Token]) -> Option<ReadFault>
     ensures { result ≡ crowd_mark requests tokens.now }
 {
     if requests >= MOST_REQUESTS {
-        return Some(Fault {
+        return Some(ReadFault {
             code: Code::Many,
             left: tokens.len(),
         });
@@ -69,7 +69,7 @@ fn entry_mark(
     txns: &[Txn],
     requests: usize,
     tokens: &[Token],
-) -> Result<Option<Fault>, NoMemory>
+) -> Result<Option<ReadFault>, NoMemory>
     ensures { IfOk result (λ mark. mark ≡ entry_mark (transactions_of txns.now) requests tokens.now) }
 {
     match call_mark(alloc, txns, tokens) {
@@ -80,7 +80,7 @@ fn entry_mark(
 
 /// Reads a call and its semicolon.
 #[tactic(auto, unfolding(crate::specs::SessionReading::entry_at))]
-fn entry(alloc: Global, reader: &mut Reader<'_>) -> Result<Call, Halt>
+fn entry(alloc: Global, reader: &mut Reader<'_>) -> Result<Call, ReadStop>
     ensures { Reads (λ call. call) result reader.new.rest.now (entry_at reader.old.rest.now) }
 {
     let call = call(alloc, reader)?;
@@ -95,17 +95,17 @@ fn next_request(
     reader: &mut Reader<'_>,
     txns: &[Txn],
     requests: usize,
-) -> Result<Request, Halt>
+) -> Result<Request, ReadStop>
     requires few { length txns.now ≤ 32 }
     ensures { Reads (λ request. request) result reader.new.rest.now (as_item (request_of (transactions_of txns.now)) (entry_from (transactions_of txns.now) requests reader.old.rest.now)) }
 {
     match entry_mark(alloc, txns, requests, reader.rest) {
-        Ok(Some(fault)) => Err(Halt::Faulty(fault)),
+        Ok(Some(fault)) => Err(ReadStop::Faulty(fault)),
         Ok(None) => {
             let call = entry(alloc, reader)?;
             Ok(request_of(txns, call))
         }
-        Err(NoMemory) => Err(Halt::NoMemory),
+        Err(NoMemory) => Err(ReadStop::NoMemory),
     }
 }
 
@@ -116,7 +116,7 @@ fn requests(
     reader: &mut Reader<'_>,
     txns: &[Txn],
     earlier: usize,
-) -> Result<List<Request>, Halt>
+) -> Result<List<Request>, ReadStop>
     requires few { length txns.now ≤ 32 }
     requires room { earlier ≤ 8192 }
     ensures read { Reads (λ requests. requests) result reader.new.rest.now (requests_from (transactions_of txns.now) earlier [] reader.old.rest.now) }
@@ -131,13 +131,13 @@ fn requests(
 }
 
 /// What is refused of the head of a session behind so many others, besides the grammar.
-fn session_mark(sessions: usize, tokens: &[Token]) -> Option<Fault>
+fn session_mark(sessions: usize, tokens: &[Token]) -> Option<ReadFault>
     ensures { result ≡ session_mark sessions tokens.now }
 {
     match tokens {
         [token, others @ ..] if is_word(token, b"session") => {
             if sessions >= MOST_SESSIONS {
-                return Some(Fault {
+                return Some(ReadFault {
                     code: Code::Many,
                     left: tokens.len(),
                 });
@@ -151,7 +151,7 @@ fn session_mark(sessions: usize, tokens: &[Token]) -> Option<Fault>
 
 /// Reads the head of a session: its word, its number and the brace.
 #[tactic(auto, unfolding(crate::specs::SessionReading::session_head_at))]
-fn session_head(reader: &mut Reader<'_>) -> Result<u64, Halt>
+fn session_head(reader: &mut Reader<'_>) -> Result<u64, ReadStop>
     ensures { Reads (λ number. number) result reader.new.rest.now (session_head_at reader.old.rest.now) }
 {
     reader.word(b"session")?;
@@ -162,11 +162,11 @@ fn session_head(reader: &mut Reader<'_>) -> Result<u64, Halt>
 
 /// Reads the head of the session that begins here, behind so many others.
 #[tactic(auto, unfolding(crate::specs::SessionReading::session_head_from))]
-fn next_head(reader: &mut Reader<'_>, sessions: usize) -> Result<u64, Halt>
+fn next_head(reader: &mut Reader<'_>, sessions: usize) -> Result<u64, ReadStop>
     ensures { Reads (λ number. number) result reader.new.rest.now (session_head_from sessions reader.old.rest.now) }
 {
     match session_mark(sessions, reader.rest) {
-        Some(fault) => Err(Halt::Faulty(fault)),
+        Some(fault) => Err(ReadStop::Faulty(fault)),
         None => session_head(reader),
     }
 }
@@ -179,7 +179,7 @@ fn session(
     txns: &[Txn],
     sessions: usize,
     earlier: usize,
-) -> Result<List<Request>, Halt>
+) -> Result<List<Request>, ReadStop>
     requires few { length txns.now ≤ 32 }
     requires room { earlier ≤ 8192 }
     ensures read { Reads (λ requests. requests) result reader.new.rest.now (session_requests (transactions_of txns.now) sessions earlier reader.old.rest.now) }
@@ -197,7 +197,7 @@ pub fn sessions(
     alloc: Global,
     reader: &mut Reader<'_>,
     txns: &[Txn],
-) -> Result<List<List<Request>>, Halt>
+) -> Result<List<List<Request>>, ReadStop>
     requires few { length txns.now ≤ 32 }
     ensures { Reads (λ sessions. sessions) result reader.new.rest.now (sessions_from (transactions_of txns.now) [] reader.old.rest.now) }
 {

@@ -1,7 +1,7 @@
 ghost use Rattle.std.specs.Prelude.{◌≡◌, ◌≤◌, ◌||◌, IfOk, ℕ, Some, length};
 ghost use Rattle.sv_lex.specs.declared.marks.Mark.TheVariants.{Eq as Equals};
 ghost use Rattle.sv_lex.specs.declared.tokens.TokenKind.TheVariants.{Mark as IsMark};
-ghost use Rattle.sv_schema_reader.specs.Reading.{Reads, is_kind, token_at};
+ghost use Rattle.sv_reader.specs.Reading.{Reads, is_kind, token_at};
 ghost use Rattle.sv_workload.specs.LastRefused.{least_of, most_of};
 ghost use Rattle.sv_workload.specs.Reading.{natural_of, setting_named, setting_of, begins_setting, setting_at, is_out, out_mark, given_of, with_setting, or_else, again_mark, number_mark, setting_mark, setting_from, settings_from, unset, part_named, part_of, head_at, front_from, IsBounded};
 
@@ -9,7 +9,7 @@ use crate::values::{count, natural_of};
 use crate::written::{Given, PartHead, Setting};
 use sv_app::Code;
 use sv_lex::{Mark, Token, TokenKind};
-use sv_schema_reader::{Fault, Halt, Reader};
+use sv_reader::{ReadFault, ReadStop, Reader};
 
 fn setting_named(word: &[u8]) -> Option<Setting>
     ensures { result ≡ setting_named word.now }
@@ -46,7 +46,7 @@ fn begins_setting(tokens: &[Token]) -> bool
 }
 
 /// Reads the word of a setting.
-fn setting_word(reader: &mut Reader<'_>) -> Result<Setting, Halt>
+fn setting_word(reader: &mut Reader<'_>) -> Result<Setting, ReadStop>
     ensures { Reads (λ which. which) result reader.new.rest.now (token_at setting_of reader.old.rest.now) }
 {
     if let [token, rest @ ..] = reader.rest {
@@ -55,12 +55,12 @@ fn setting_word(reader: &mut Reader<'_>) -> Result<Setting, Halt>
             return Ok(which);
         }
     }
-    Err(Halt::Faulty(reader.misplaced()))
+    Err(ReadStop::Faulty(reader.misplaced()))
 }
 
 /// Reads a setting: what is set, and the number.
 #[tactic(auto, unfolding(crate::specs::Reading::setting_at))]
-fn setting(reader: &mut Reader<'_>) -> Result<(Setting, u64), Halt>
+fn setting(reader: &mut Reader<'_>) -> Result<(Setting, u64), ReadStop>
     ensures { Reads (λ set. set) result reader.new.rest.now (setting_at reader.old.rest.now) }
 {
     let which = setting_word(reader)?;
@@ -102,11 +102,11 @@ fn is_out(least: u64, most: u64, token: &Token) -> bool
 }
 
 /// The fault of a number that stands here outside these bounds.
-pub fn out_mark(code: Code, least: u64, most: u64, tokens: &[Token]) -> Option<Fault>
+pub fn out_mark(code: Code, least: u64, most: u64, tokens: &[Token]) -> Option<ReadFault>
     ensures { result ≡ out_mark code least most tokens.now }
 {
     match tokens {
-        [token, ..] if is_out(least, most, token) => Some(Fault {
+        [token, ..] if is_out(least, most, token) => Some(ReadFault {
             code,
             left: tokens.len(),
         }),
@@ -166,7 +166,7 @@ fn is_equals(token: &Token) -> bool
 }
 
 /// The fault of the number that is set here, if it is outside its bounds.
-fn number_mark(rows: usize, which: Setting, tokens: &[Token]) -> Option<Fault>
+fn number_mark(rows: usize, which: Setting, tokens: &[Token]) -> Option<ReadFault>
     ensures { result ≡ number_mark rows which tokens.now }
 {
     match tokens {
@@ -178,14 +178,14 @@ fn number_mark(rows: usize, which: Setting, tokens: &[Token]) -> Option<Fault>
 }
 
 /// What is refused of the setting that begins here, besides the grammar.
-fn setting_mark(rows: usize, given: &Given, tokens: &[Token]) -> Option<Fault>
+fn setting_mark(rows: usize, given: &Given, tokens: &[Token]) -> Option<ReadFault>
     ensures { result ≡ setting_mark rows given.now tokens.now }
 {
     match tokens {
         [token, ..] => match setting_of(token) {
             Some(which) => {
                 if given_of(which, given).is_some() {
-                    return Some(Fault {
+                    return Some(ReadFault {
                         code: Code::Twice,
                         left: tokens.len(),
                     });
@@ -200,19 +200,23 @@ fn setting_mark(rows: usize, given: &Given, tokens: &[Token]) -> Option<Fault>
 
 /// Reads the setting that begins here, where there are so many initial rows and this is set already.
 #[tactic(auto, unfolding(crate::specs::Reading::setting_from), using(crate::proofs::SettingLaws::bounds))]
-fn next_setting(reader: &mut Reader<'_>, rows: usize, given: &Given) -> Result<(Setting, u64), Halt>
+fn next_setting(
+    reader: &mut Reader<'_>,
+    rows: usize,
+    given: &Given,
+) -> Result<(Setting, u64), ReadStop>
     ensures read { Reads (λ set. set) result reader.new.rest.now (setting_from rows given.now reader.old.rest.now) }
     ensures bounded { IfOk result (λ set. set.1 ≤ most_of set.0) }
 {
     match setting_mark(rows, given, reader.rest) {
-        Some(fault) => Err(Halt::Faulty(fault)),
+        Some(fault) => Err(ReadStop::Faulty(fault)),
         None => setting(reader),
     }
 }
 
 /// Reads all settings that stand here.
 #[tactic(auto, using(crate::proofs::TurnLaws::settings, crate::proofs::SettingLaws::bounds))]
-fn settings(reader: &mut Reader<'_>, rows: usize) -> Result<Given, Halt>
+fn settings(reader: &mut Reader<'_>, rows: usize) -> Result<Given, ReadStop>
     ensures read { Reads (λ given. given) result reader.new.rest.now (settings_from rows unset reader.old.rest.now) }
     ensures bounded { IfOk result (λ given. IsBounded given) }
 {
@@ -246,7 +250,7 @@ fn part_of(token: &Token) -> Option<PartHead>
     }
 }
 
-fn head_word(reader: &mut Reader<'_>) -> Result<PartHead, Halt>
+fn head_word(reader: &mut Reader<'_>) -> Result<PartHead, ReadStop>
     ensures { Reads (λ head. head) result reader.new.rest.now (token_at part_of reader.old.rest.now) }
 {
     if let [token, rest @ ..] = reader.rest {
@@ -255,12 +259,12 @@ fn head_word(reader: &mut Reader<'_>) -> Result<PartHead, Halt>
             return Ok(head);
         }
     }
-    Err(Halt::Faulty(reader.misplaced()))
+    Err(ReadStop::Faulty(reader.misplaced()))
 }
 
 /// Reads the head of a last part.
 #[tactic(auto, unfolding(crate::specs::Reading::head_at))]
-fn head(reader: &mut Reader<'_>) -> Result<PartHead, Halt>
+fn head(reader: &mut Reader<'_>) -> Result<PartHead, ReadStop>
     ensures { Reads (λ head. head) result reader.new.rest.now (head_at reader.old.rest.now) }
 {
     reader.mark(Mark::Percents)?;
@@ -270,14 +274,14 @@ fn head(reader: &mut Reader<'_>) -> Result<PartHead, Halt>
 
 /// Reads the head of a last part and its settings, among which the number of sites must be.
 #[tactic(auto, unfolding(crate::specs::Reading::front_from))]
-pub fn front(reader: &mut Reader<'_>, rows: usize) -> Result<(PartHead, Given), Halt>
+pub fn front(reader: &mut Reader<'_>, rows: usize) -> Result<(PartHead, Given), ReadStop>
     ensures read { Reads (λ front. front) result reader.new.rest.now (front_from rows reader.old.rest.now) }
     ensures bounded { IfOk result (λ front. IsBounded front.1) }
 {
     let head = head(reader)?;
     let given = settings(reader, rows)?;
     if given.sites.is_none() {
-        return Err(Halt::Faulty(reader.misplaced()));
+        return Err(ReadStop::Faulty(reader.misplaced()));
     }
     Ok((head, given))
 }

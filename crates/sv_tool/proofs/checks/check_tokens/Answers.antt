@@ -1,16 +1,6 @@
 use Rattle.sv_app.specs.Schema.{schema_of}
-use Rattle.sv_tool.proofs.GrammarLaws.{grammar_of, numbers_of}
-use Rattle.sv_tool.proofs.CheckLaws.{limits_of, accepted_tokens, refused_tokens, all_tokens, unread_tokens}
+use Rattle.sv_tool.proofs.CheckLaws.{accepted_tokens, refused_tokens, all_tokens, unread_tokens}
 use Rattle.sv_tool.proofs.checks.check_tokens.Goals as goal
-
-pub check_behind-requires-clause-grammar : goal.check_behind-requires-clause-grammar
-check_behind-requires-clause-grammar c = grammar_of _ _ (schema_of c.in-Ok.tables.items) c.in-Ok.ensures.read
-
-pub check_behind-requires-clause-invariants : goal.check_behind-requires-clause-invariants
-check_behind-requires-clause-invariants c = numbers_of _ _ (schema_of c.in-Ok.tables.items) c.in-Ok.ensures.read
-
-pub check_behind-requires-clause-limits : goal.check_behind-requires-clause-limits
-check_behind-requires-clause-limits c = limits_of _ _ (schema_of c.in-Ok.tables.items) c.in-Ok.ensures.read
 
 pub returns-in-Ok-clause-accepted : goal.returns-in-Ok-clause-accepted
 returns-in-Ok-clause-accepted c = accepted_tokens c.check_behind.result c.args.tokens.now c.in-Ok.at (schema_of c.in-Ok.tables.items) c.in-Ok.ensures.read c.check_behind.ensures.accepted

@@ -1,7 +1,8 @@
 use Rattle.std.proofs.Common.{◌≡◌, ◌*◌, ◌+◌, length, map}
 use Rattle.sv_app.specs.Trees.{command_of}
-use Rattle.sv_schema_reader.specs.Reading.{turns_at}
-use Rattle.sv_txn_reader.specs.Reading.{keep, goes_on, statement_step, block_at}
+use Rattle.sv_reader.specs.Reading.{turns_at}
+use Rattle.sv_reader.specs.Reading.{keep}
+use Rattle.sv_txn_reader.specs.Reading.{goes_on, statement_step, block_at}
 use Rattle.sv_txn_reader.proofs.blocks.+blocks.Given as goal
 
 abbrev pub invariant-inside-loop-alloc : goal.invariant-inside-loop-alloc

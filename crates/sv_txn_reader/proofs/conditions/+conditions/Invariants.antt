@@ -1,8 +1,9 @@
 use Rattle.std.proofs.Common.{◌≡◌, ◌≤◌, ◌*◌, ◌+◌, length, codes}
 use Rattle.sv_app.specs.Trees.{test_of}
 use Rattle.sv_lex.specs.declared.tokens.TokenKind.TheVariants.{Name}
-use Rattle.sv_schema_reader.specs.Reading.{is_next, turns_at}
-use Rattle.sv_txn_reader.specs.Reading.{keep, and_turn, or_turn, literal_below, conjunctions_below}
+use Rattle.sv_reader.specs.Reading.{is_next, turns_at}
+use Rattle.sv_reader.specs.Reading.{keep}
+use Rattle.sv_txn_reader.specs.Reading.{and_turn, or_turn, literal_below, conjunctions_below}
 use Rattle.sv_txn_reader.proofs.conditions.+conditions.Given as goal
 
 abbrev pub invariant-conjunctions-loop-alloc : goal.invariant-conjunctions-loop-alloc

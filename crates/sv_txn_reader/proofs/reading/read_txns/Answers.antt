@@ -1,8 +1,9 @@
 use Rattle.std.proofs.Common.{◌≡◌, ◌∙◌, ◌-◌, Err, length, drop, sym, ap, subst, arith}
 use Rattle.sv_app.specs.Trees.{transactions_of}
-use Rattle.sv_schema_reader.specs.Refused.{spot_of}
-use Rattle.sv_schema_reader.proofs.FoundLaws.{whole_drop}
-use Rattle.sv_txn_reader.specs.Reading.{IsLeft, txns_at}
+use Rattle.sv_reader.specs.Places.{refusal_of}
+use Rattle.sv_reader.proofs.CutLaws.{whole_drop}
+use Rattle.sv_reader.specs.Reading.{IsLeft}
+use Rattle.sv_txn_reader.specs.Reading.{txns_at}
 use Rattle.sv_txn_reader.specs.Refused.{IsRefused}
 use Rattle.sv_txn_reader.proofs.FoundLaws.{FoundAt, found_at, refused, refused_none}
 use Rattle.sv_txn_reader.proofs.KeptLaws.{read_grammar, read_limits}
@@ -12,7 +13,7 @@ found_here : (c : goal.In-Ok) → FoundAt c.args.tokens.now c.args.at (transacti
 found_here c = found_at c.args.tokens.now c.args.at (transactions_of c.in-Ok.txns.items) c.in-Ok.left c.requires
     (subst (λ l. IsLeft (txns_at l) (transactions_of c.in-Ok.txns.items) c.in-Ok.left) (whole_drop c.args.tokens.now c.args.at) c.in-Ok.ensures.read)
 
-fault_here : (c : goal.After-spot_of) → txns_at (drop c.args.at c.args.tokens.now) ≡ Err c.in-Err-Faulty.fault
+fault_here : (c : goal.After-refusal_of) → txns_at (drop c.args.at c.args.tokens.now) ≡ Err c.in-Err-Faulty.fault
 fault_here c = ap txns_at (sym (whole_drop c.args.tokens.now c.args.at)) ∙ c.in-Err-Faulty.ensures.fault c.in-Err-Faulty.fault (ap Err c.in-Err-Faulty.field-0-is)
 
 pub overflow_sub-result : goal.overflow_sub-result
@@ -38,8 +39,7 @@ returns-in-Err-Faulty-clause-all c ts rest are = refused_none (drop c.args.at c.
 
 pub returns-in-Err-Faulty-clause-refused : goal.returns-in-Err-Faulty-clause-refused
 returns-in-Err-Faulty-clause-refused c refusal e =
-    let is : record { spot = c.spot_of.result; code = c.in-Err-Faulty.fault.code } ≡ refusal = cc in
-    let place : c.spot_of.result ≡ spot_of c.args.end (drop (length (drop c.args.at c.args.tokens.now) - c.in-Err-Faulty.fault.left) (drop c.args.at c.args.tokens.now))
-    = c.spot_of.ensures ∙ ap (λ l. spot_of c.args.end (drop (length l - c.in-Err-Faulty.fault.left) l)) (whole_drop c.args.tokens.now c.args.at) in
-    subst (λ r. IsRefused (drop c.args.at c.args.tokens.now) c.args.end r) ((λ i. record { spot = sym place i; code = c.in-Err-Faulty.fault.code }) ∙ is)
+    let is : c.refusal_of.result ≡ refusal = cc in
+    subst (λ r. IsRefused (drop c.args.at c.args.tokens.now) c.args.end r)
+    (ap (λ l. refusal_of l c.args.end c.in-Err-Faulty.fault) (sym (whole_drop c.args.tokens.now c.args.at)) ∙ sym c.refusal_of.ensures ∙ is)
     (refused (drop c.args.at c.args.tokens.now) c.args.end c.in-Err-Faulty.fault (fault_here c))

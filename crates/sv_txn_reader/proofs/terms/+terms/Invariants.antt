@@ -2,8 +2,9 @@ use Rattle.std.proofs.Common.{◌≡◌, ◌≤◌, ◌*◌, ◌+◌, length}
 use Rattle.sv_app.specs.Trees.{term_of}
 use Rattle.sv_lex.specs.declared.marks.Mark.TheVariants as marks
 use Rattle.sv_lex.specs.declared.tokens.TokenKind.TheVariants.{Mark}
-use Rattle.sv_schema_reader.specs.Reading.{is_next, turns_at}
-use Rattle.sv_txn_reader.specs.Reading.{keep, product_turn, sum_turn, is_sign, factor_below, products_below}
+use Rattle.sv_reader.specs.Reading.{is_next, turns_at}
+use Rattle.sv_reader.specs.Reading.{keep}
+use Rattle.sv_txn_reader.specs.Reading.{product_turn, sum_turn, is_sign, factor_below, products_below}
 use Rattle.sv_txn_reader.proofs.terms.+terms.Given as goal
 
 abbrev pub invariant-products-loop-alloc : goal.invariant-products-loop-alloc

@@ -1,7 +1,8 @@
 use Rattle.std.proofs.Common.{◌≡◌, length}
 use Rattle.sv_app.specs.Trees.{transactions_of}
-use Rattle.sv_schema_reader.specs.Reading.{turns_at}
-use Rattle.sv_txn_reader.specs.Reading.{keep, begins_txn, txn_step}
+use Rattle.sv_reader.specs.Reading.{turns_at}
+use Rattle.sv_reader.specs.Reading.{keep}
+use Rattle.sv_txn_reader.specs.Reading.{begins_txn, txn_step}
 use Rattle.sv_txn_reader.proofs.txns.txns.Given as goal
 
 abbrev pub invariant-loop-alloc : goal.invariant-loop-alloc

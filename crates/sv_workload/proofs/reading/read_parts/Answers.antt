@@ -1,7 +1,7 @@
 use Rattle.std.proofs.Common.{◌≡◌, ◌∙◌, subst}
 use Rattle.sv_app.specs.Schema.{schema_of}
 use Rattle.sv_app.specs.Trees.{transactions_of}
-use Rattle.sv_schema_reader.proofs.FoundLaws.{whole_drop}
+use Rattle.sv_reader.proofs.CutLaws.{whole_drop}
 use Rattle.sv_workload.specs.Documents.{IsRefused}
 use Rattle.sv_workload.proofs.reading.read_parts.Goals as goal
 

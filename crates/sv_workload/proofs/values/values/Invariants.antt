@@ -1,5 +1,5 @@
 use Rattle.std.proofs.Common.{◌≡◌, length}
-use Rattle.sv_schema_reader.specs.Reading.{others_at}
+use Rattle.sv_reader.specs.Reading.{others_at}
 use Rattle.sv_workload.specs.Reading.{value_step}
 use Rattle.sv_workload.proofs.values.values.Given as goal
 

@@ -1,0 +1,12 @@
+pub mod AnswerLaws
+pub mod CutLaws
+pub mod FuelLaws
+pub mod KindLaws
+pub mod ListLaws
+pub mod LoopLaws
+pub mod MadeLaws
+pub mod MatterLaws
+pub mod PartLaws
+pub mod ReadLaws
+pub mod StepLaws
+pub mod TurnLaws
