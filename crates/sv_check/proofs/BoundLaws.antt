@@ -24,10 +24,11 @@ use Rattle.sv_effect.specs.Reads.{SeenValue}
 use Rattle.sv_effect.specs.RowsFit.{IsWord, NumberFits, GotFits, GotsFit, RowFits, SeenFits}
 use Rattle.sv_effect.specs.RunChanges.{written_got, with_write, with_writes}
 use Rattle.sv_effect.specs.RunValues.{column}
-use Rattle.sv_effect.specs.Words.{IsWordVal}
+use Rattle.sv_effect.specs.Words.{IsWordVal, IsWordGot, AreWordGots}
+use Rattle.sv_effect.proofs.WordLaws.{set_word}
 use Rattle.sv_effect.specs.TablesOfCut.{is_place}
 use Rattle.sv_check.specs.declared.left.LeftRow.{LeftRow}
-use Rattle.sv_check.specs.Bounds.{HasRoom, HaveRoom, IsWordGot, AreWordGots, IsWordWrite, AreWordWrites, is_counter, AreBounded, IsBounded, LeftBounded, ChangesBounded}
+use Rattle.sv_check.specs.Bounds.{HasRoom, HaveRoom, IsWordWrite, AreWordWrites, is_counter, AreBounded, IsBounded, LeftBounded, ChangesBounded}
 use Rattle.sv_check.specs.Left.{left_row, left_rows, told_row}
 
 -- what holds of each column holds still where an item of which it holds is put
@@ -54,10 +55,6 @@ room_less k m (Text text) le h = tt
 word_room : (k : ℕ) (got : Got) → HasRoom (suc k) (Num (pos 0)) → IsWordGot got → HasRoom k got
 word_room k (Num n) zeroes h = (omega (arith, ints, zeroes.0, zeroes.1, h.0, h.1), omega (arith, ints, zeroes.0, zeroes.1, h.0, h.1))
 word_room k (Text text) zeroes h = tt
-
-pub set_word : (v : Val) → IsWordVal v → IsWordGot (got_of v)
-set_word (vals.Int n) h = h
-set_word (vals.Text text) h = h
 
 written_room : (k : ℕ) (w : Write) (got : Got) → HasRoom (suc k) (Num (pos 0)) → HasRoom (suc k) got → IsWordWrite w → HasRoom k (written_got w got)
 written_room k (Set v) got zeroes h word = word_room k (got_of v) zeroes (set_word v word)
@@ -107,19 +104,6 @@ pub rest_room : (k n : ℕ) (c : ℕ) (w : Write) (row new : List Got) → HaveR
 rest_room k n c w row new h less word is = subst (HaveRoom k) (sym is) (write_room k n (c, w) row less h word)
 
 pub ruleset writing = (first_room, rest_room)
-
--- a row of words
-pub no_words : AreWordGots []
-no_words = record { each = λ c. (omega (arith, ints), omega (arith, ints)) }
-
-pub more_words : (got : Got) (row : List Got) → IsWordGot got → AreWordGots row → AreWordGots (got ∷ row)
-more_words got row word words = record { each = at }
-  where
-    at : (c : ℕ) → IsWordGot (column (got ∷ row) c)
-    at zero = word
-    at (suc c) = words.each c
-
-pub ruleset words = (no_words, more_words, set_word)
 
 -- more room is room
 bounded_less : (table : Option Declaration) (k n : ℕ) (values : List Got) → k ≤ n → AreBounded table n values → AreBounded table k values

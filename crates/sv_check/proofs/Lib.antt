@@ -14,7 +14,6 @@ pub mod ListLaws
 pub mod ReferLaws
 pub mod RuleLaws
 pub mod SetLaws
-pub mod SlotLaws
 pub mod StartLaws
 pub mod TableLaws
 pub mod ValueLaws

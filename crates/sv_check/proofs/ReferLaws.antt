@@ -18,7 +18,8 @@ use Rattle.sv_app.specs.Typing.{is_numdelta, no_column, at_column, key_faults, c
 use Rattle.sv_app.specs.Valid.{IsInvariant, value_of}
 use Rattle.sv_app.proofs.AcceptedLaws.{front_none, back_none, each_none, no_fault, table_right}
 use Rattle.sv_check.specs.declared.left.LeftRow.{LeftRow}
-use Rattle.sv_check.specs.Bounds.{is_counter, IsWordGot, AreBounded}
+use Rattle.sv_effect.specs.Words.{IsWordGot}
+use Rattle.sv_check.specs.Bounds.{is_counter, AreBounded}
 use Rattle.sv_check.specs.Left.{left_row}
 use Rattle.sv_check.proofs.ListLaws.{Stands, contained}
 

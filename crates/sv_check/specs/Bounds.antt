@@ -11,7 +11,7 @@ use Rattle.sv_effect.specs.declared.ops.Write.{Write}
 use Rattle.sv_effect.specs.declared.ops.Write.TheVariants.{Delta, Set}
 use Rattle.sv_effect.specs.RowsFit.{IsWord}
 use Rattle.sv_effect.specs.RunValues.{column}
-use Rattle.sv_effect.specs.Words.{IsWordVal}
+use Rattle.sv_effect.specs.Words.{IsWordVal, IsWordGot}
 use Rattle.sv_check.specs.declared.left.LeftRow.{LeftRow}
 
 abbrev pub HasRoom : ℕ → Got → Type 0
@@ -21,13 +21,6 @@ HasRoom writes (Text text) = Unit {0}
 -- each column does
 pub record HaveRoom (writes : ℕ) (values : List Got) : Type 0 where
   pub each : (number : ℕ) → HasRoom writes (column values number)
-
-abbrev pub IsWordGot : Got → Type 0
-IsWordGot (Num n) = IsWord n
-IsWordGot (Text text) = Unit {0}
-
-pub record AreWordGots (values : List Got) : Type 0 where
-  pub each : (number : ℕ) → IsWordGot (column values number)
 
 abbrev pub IsWordWrite : Write → Type 0
 IsWordWrite (Delta d) = IsWord d

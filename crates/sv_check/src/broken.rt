@@ -8,8 +8,8 @@ ghost use Rattle.sv_app.specs.Valid.{number_of, value_of, side_of, key_by, Binds
 ghost use Rattle.sv_effect.specs.Agrees.{is_present};
 ghost use Rattle.sv_effect.specs.Asked.{Asked};
 ghost use Rattle.sv_effect.specs.Follows.{Follows};
-ghost use Rattle.sv_effect.specs.RunValues.{column as value_among};
-ghost use Rattle.sv_check.specs.Bounds.{IsWordGot, AreBounded, LeftBounded};
+ghost use Rattle.sv_effect.specs.Words.{IsWordGot};
+ghost use Rattle.sv_check.specs.Bounds.{AreBounded, LeftBounded};
 ghost use Rattle.sv_check.specs.Left.{over, left_row, is_left};
 ghost use Rattle.sv_check.specs.Least.{Says, has_absent, IsOwn, RowSays, PlaceSays};
 ghost use Rattle.sv_check.specs.Rules.{is_met};
@@ -18,25 +18,13 @@ use crate::left::{LeftRow, is_place, left_at, look};
 use crate::rules::{is_listed, is_within};
 use std::alloc::Global;
 use sv_app::{App, Check, Got, Ident, Inv, InvBody, Kind, Place};
-use sv_effect::{Halt, Rows, ask_row};
+use sv_effect::{Halt, Rows, ask_row, column as column_of};
 use sv_value::{Key, Val};
-
-/// The value of a column; one that isn't there counts as zero.
-pub fn value_among(values: &[Got], column: &Ident) -> Got
-    ensures { result ≡ value_among values.now column.now.num }
-{
-    let place = column.num as usize;
-    if place < values.len() {
-        values[place]
-    } else {
-        Got::Num(0)
-    }
-}
 
 fn value_of(row: &LeftRow, column: &Ident) -> Got
     ensures { result ≡ value_of (left_row row.now) column.now }
 {
-    value_among(row.values.items(), column)
+    column_of(row.values.items(), column.num)
 }
 
 /// A side of a check.

@@ -11,14 +11,15 @@ ghost use Rattle.sv_effect.specs.Follows.{Follows};
 ghost use Rattle.sv_effect.specs.RowChange.{turn_of};
 ghost use Rattle.sv_effect.specs.RunChanges.{effect_of};
 ghost use Rattle.sv_effect.specs.Effects.{row_after, with_effect, with_effects};
-ghost use Rattle.sv_check.specs.Bounds.{AreWordGots, IsBounded, LeftBounded, ChangesBounded};
+ghost use Rattle.sv_effect.specs.Words.{AreWordGots};
+ghost use Rattle.sv_check.specs.Bounds.{IsBounded, LeftBounded, ChangesBounded};
 ghost use Rattle.sv_check.specs.Left.{over, left_row, left_rows, start_of};
 
 use crate::left::{LeftRow, look};
-use crate::writes::{make_writes, zeros};
+use crate::writes::make_writes;
 use std::alloc::Global;
 use sv_app::{Act, App, Got, Place};
-use sv_effect::{Halt, RowEffect, Rows};
+use sv_effect::{Halt, RowEffect, Rows, zeros};
 use sv_value::{List, NoMemory};
 
 /// Whether a row is present after the act.
@@ -33,7 +34,7 @@ fn turned(act: Act, present: bool) -> bool
 }
 
 /// The values that a change of a row that isn't kept starts from.
-#[tactic(auto, using(crate::proofs::TableLaws::declared, crate::proofs::BoundLaws::words))]
+#[tactic(auto, using(crate::proofs::TableLaws::declared, sv_effect::proofs::WordLaws::words))]
 fn first_values(alloc: Global, app: &App, effect: &RowEffect) -> Result<List<Got>, NoMemory>
     ensures words { IfOk result (λ values. AreWordGots values) }
     ensures values { IfOk result (λ values. values ≡ map got_of (zeros_in (schema_of app.now.tables.items) (place_of effect.now))) }

@@ -12,13 +12,12 @@ ghost use Rattle.sv_check.specs.Clashes.{present_value, pair_of, values_at, in_o
 ghost use Rattle.sv_check.specs.Least.{IsLeast};
 ghost use Rattle.sv_check.specs.Left.{over, left_row, told_row};
 
-use crate::broken::value_among;
 use crate::keys::lesser;
 use crate::left::{LeftRow, left_at};
 use std::alloc::Global;
 use std::collections::BTreeMap;
 use sv_app::{Got, Ident, Place};
-use sv_effect::{Halt, Rows, Seen, ask_row};
+use sv_effect::{Halt, Rows, Seen, ask_row, column as column_of};
 use sv_value::{Key, NoMemory, Text, Val};
 
 /// A value as the key of a map. A number has no text, and a text has the number zero.
@@ -33,7 +32,7 @@ fn value_left(row: &LeftRow, column: &Ident) -> Option<Got>
     ensures { result ≡ present_value column.now (Some (left_row row.now)) }
 {
     if row.present {
-        Some(value_among(row.values.items(), column))
+        Some(column_of(row.values.items(), column.num))
     } else {
         None
     }
@@ -44,7 +43,7 @@ fn value_told(seen: &Seen, column: &Ident) -> Option<Got>
     ensures { result ≡ present_value column.now (told_row (seen_of seen.now)) }
 {
     if seen.kept && seen.present {
-        Some(value_among(seen.values.as_slice(), column))
+        Some(column_of(seen.values.as_slice(), column.num))
     } else {
         None
     }

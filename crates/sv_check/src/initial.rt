@@ -17,10 +17,10 @@ ghost use Rattle.sv_check.specs.Initial.{initial_row, initial_tables, IsAnswer};
 ghost use Rattle.sv_check.specs.Tests.{val_in, held_cmp, held_of, held_by, is_held, is_there, referred, rules_of, fails, first_failed};
 
 use crate::rules::{is_listed, is_within};
-use crate::writes::got_of;
 use std::alloc::Global;
 use std::collections::BTreeSet;
 use sv_app::{App, Got, Ident, InitRow, Inv, InvBody, Place, Table};
+use sv_effect::got_of;
 use sv_value::{Key, NoMemory, Val};
 
 /// A value that a row has in a unique column.

@@ -13,7 +13,7 @@ ghost use Rattle.sv_check.specs.Least.{lesser, has_key, HasPresent, AreCandidate
 use crate::left::LeftRow;
 use std::alloc::Global;
 use sv_app::Place;
-use sv_effect::{Halt, Rows, ask_next};
+use sv_effect::{Halt, Rows, ask_after};
 use sv_value::{Key, NoMemory, Val};
 
 /// The lesser of two keys, where there are two.
@@ -30,18 +30,6 @@ pub fn lesser(one: Option<Key>, other: Option<Key>) -> Option<Key>
                 Some(key)
             }
         }
-    }
-}
-
-/// The key after that one, or the first.
-fn next_key<R: Rows>(table: u16, after: &Option<Key>, rows: &mut R) -> Result<Option<Key>, Halt>
-    ensures followed { IfOk result (λ next. Follows (R.face rows.old) (R.face rows.new) (R.noted rows.old) (R.noted rows.new) (λ t. IsNextKey t table after.now next)) }
-    ensures falls { IfOk result (λ next. IfSome next (λ key. (R.face rows.old).rest table (Some key) < (R.face rows.old).rest table after.now)) }
-    ensures asked { Asked R.stays R.face rows.old rows.new result }
-{
-    match after {
-        Some(key) => ask_next(rows, table, Some(key)),
-        None => ask_next(rows, table, None),
     }
 }
 
@@ -63,7 +51,7 @@ fn present_keys<R: Rows>(alloc: Global, table: u16, rows: &mut R) -> Result<Vec<
     let mut keys = Vec::new(alloc);
     let mut after: Option<Key> = None;
     loop {
-        match next_key(table, &after, rows)? {
+        match ask_after(rows, table, &after)? {
             Some(key) => {
                 add_key(&key, &mut keys)?;
                 after = Some(key);

@@ -12,8 +12,10 @@ pub mod PlaceListLaws
 pub mod Promises
 pub mod RowLaws
 pub mod SequenceLaws
+pub mod SlotLaws
 pub mod SourceLaws
 pub mod SumLaws
 pub mod TableLaws
 pub mod TestLaws
+pub mod WordLaws
 pub mod WriteLaws

@@ -42,3 +42,19 @@ pub fn ask_next<R: Rows>(rows: &mut R, table: u16, after: Option<&Key>) -> Resul
 {
     rows.next(table, after)
 }
+
+/// The same with the key that it is asked after held here.
+pub fn ask_after<R: Rows>(
+    rows: &mut R,
+    table: u16,
+    after: &Option<Key>,
+) -> Result<Option<Key>, Halt>
+    ensures followed { IfOk result (λ next. Follows (R.face rows.old) (R.face rows.new) (R.noted rows.old) (R.noted rows.new) (λ t. IsNextKey t table after.now next)) }
+    ensures falls { IfOk result (λ next. IfSome next (λ key. (R.face rows.old).rest table (Some key) < (R.face rows.old).rest table after.now)) }
+    ensures asked { Asked R.stays R.face rows.old rows.new result }
+{
+    match after {
+        Some(key) => ask_next(rows, table, Some(key)),
+        None => ask_next(rows, table, None),
+    }
+}

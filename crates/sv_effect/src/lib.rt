@@ -11,8 +11,9 @@ mod outcomes;
 mod reads;
 mod rows;
 mod seen;
+mod values;
 
-pub use asks::{ask_next, ask_row};
+pub use asks::{ask_after, ask_next, ask_row};
 pub use cells::{Cell, Row};
 pub use changes::apply_row;
 pub use laws::{
@@ -24,3 +25,4 @@ pub use outcomes::{Outcome, Ran};
 pub use reads::{Ask, Halt, Read, Seen, Told};
 pub use rows::{RowStore, Rows};
 pub use sv_app::Got;
+pub use values::{column, got_of, key_values, prepend, put_got, zeros};

@@ -5,27 +5,17 @@ ghost use Rattle.sv_app.specs.declared.places.Place.{Place as PlaceValue};
 ghost use Rattle.sv_app.specs.Accepted.{AcceptedSchema};
 ghost use Rattle.sv_app.specs.Schema.{Declaration};
 ghost use Rattle.sv_effect.specs.StampedTables.{row_of};
-ghost use Rattle.sv_effect.specs.BareTables.{got_of, value_of, bare_row};
+ghost use Rattle.sv_effect.specs.BareTables.{value_of, bare_row};
 ghost use Rattle.sv_effect.specs.Reads.{seen_of};
 ghost use Rattle.sv_effect.specs.Agrees.{seen_in};
 ghost use Rattle.sv_effect.specs.RowsFit.{RowIsOf, SeenFits};
-ghost use Rattle.sv_effect.specs.Words.{IsWordVal, HasWord, HaveWords};
+ghost use Rattle.sv_effect.specs.Words.{HasWord, HaveWords};
 
 use crate::cells::{Cell, Row};
 use crate::reads::Seen;
+use crate::values::got_of;
 use arrayvec::ArrayVec;
 use sv_app::Got;
-use sv_value::Val;
-
-fn got_of(val: Val) -> Got
-    ensures value { result ≡ got_of val }
-    ensures word { IsWordVal val }
-{
-    match val {
-        Val::Int(number) => Got::Num(number as i128),
-        Val::Text(text) => Got::Text(text),
-    }
-}
 
 fn value_of(cell: &Cell) -> Got
     ensures value { result ≡ value_of cell.now }
@@ -33,8 +23,8 @@ fn value_of(cell: &Cell) -> Got
 {
     match cell {
         Cell::Count(sum) => Got::Num(*sum),
-        Cell::Last { val, .. } => got_of(*val),
-        Cell::Plain(val) => got_of(*val),
+        Cell::Last { val, .. } => got_of(val),
+        Cell::Plain(val) => got_of(val),
     }
 }
 

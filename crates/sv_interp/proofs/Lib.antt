@@ -8,7 +8,6 @@ pub mod MeetLaws
 pub mod NeedLaws
 pub mod RunLaws
 pub mod ResultLaws
-pub mod SlotLaws
 pub mod SpotLaws
 pub mod TxnLaws
 pub mod WriteLaws

@@ -6,14 +6,14 @@ ghost use Rattle.sv_effect.specs.Run.{changed, row_with, updated, inserted, remo
 ghost use Rattle.sv_effect.specs.RunChanges.{kept_values, with_writes, stands};
 ghost use Rattle.sv_interp.specs.Machine.{own_row, own_rows, stand, flow_of};
 
-use crate::inserts::{in_order, inserts, zeros};
+use crate::inserts::{in_order, inserts};
 use crate::looks::copy_values;
 use crate::states::{OwnRow, State};
 use crate::writes::{make_writes, sets_made};
 use arrayvec::ArrayVec;
 use std::alloc::Global;
 use sv_app::{Act, Expr, Got, Ident, Place, Table};
-use sv_effect::{Outcome, RowEffect, Write};
+use sv_effect::{Outcome, RowEffect, Write, zeros};
 use sv_value::{List, NoMemory, Val};
 
 /// The writes, as a change carries them.
@@ -96,7 +96,6 @@ fn kept_values(
     place: &Place,
     row: Option<OwnRow>,
 ) -> Result<List<Got>, NoMemory>
-    requires { length (declaration_of table.now).columns ≤ 16 }
     ensures { IfOk result (λ kept. kept ≡ kept_values (declaration_of table.now) place.now.key (own_rows row)) }
 {
     match row {

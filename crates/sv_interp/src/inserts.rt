@@ -12,14 +12,13 @@ ghost use Rattle.sv_effect.specs.RunValues.{column, val_of, nothing, values_of};
 ghost use Rattle.sv_effect.specs.TablesOfCut.{number_in};
 ghost use Rattle.sv_interp.specs.Machine.{scope_of, evaluated, listed};
 
-use crate::scopes::{Scope, column};
-use crate::slots::prepend;
+use crate::scopes::Scope;
 use crate::values::{number_in, val_of, value};
-use crate::writes::{delta_to, got_of};
+use crate::writes::delta_to;
 use std::alloc::Global;
-use sv_app::{Column, Expr, Got, Ident, Kind, Merge, Table, Ty};
-use sv_effect::Write;
-use sv_value::{Key, List, NoMemory, Text, Val};
+use sv_app::{Column, Expr, Got, Ident, Kind, Merge, Table};
+use sv_effect::{Write, column, prepend};
+use sv_value::{Key, List, NoMemory, Val};
 
 /// The values of expressions, from left to right; none where an integer leaves 64 bits.
 pub fn values(
@@ -222,77 +221,6 @@ pub fn inserts(
             Ok(Some(prepend((number, write), writes)?))
         }
     }
-}
-
-fn zero_of(ty: Ty) -> Val
-    ensures { result ≡ zero_of ty }
-{
-    match ty {
-        Ty::Text => match Text::new(&[]) {
-            Some(text) => Val::Text(text),
-            None => unreachable!(),
-        },
-        Ty::Int | Ty::Ints => Val::Int(0),
-    }
-}
-
-fn from_key(names: &[Ident], parts: &[Val], number: u16, zero: &Val) -> Val
-    ensures { result ≡ from_key names.now parts.now number zero.now }
-{
-    match names {
-        [] => *zero,
-        [name, names @ ..] => match parts {
-            [] => *zero,
-            [part, parts @ ..] => {
-                if name.num == number {
-                    *part
-                } else {
-                    from_key(names, parts, number, zero)
-                }
-            }
-        },
-    }
-}
-
-fn zeros_from(
-    alloc: Global,
-    table: &Table,
-    parts: &[Val],
-    number: u16,
-    columns: &[Column],
-) -> Result<List<Got>, NoMemory>
-    requires { number + length columns.now ≤ 16 }
-    ensures { IfOk result (λ row. (key : KeyValue) → key_values key ≡ parts.now → row ≡ map got_of (values_from (declaration_of table.now) key number columns.now)) }
-{
-    match columns {
-        [] => Ok(List::new(alloc)),
-        [first, rest @ ..] => {
-            let later = zeros_from(alloc, table, parts, number + 1, rest)?;
-            let val = from_key(&table.key, parts, number, &zero_of(first.ty));
-            prepend(got_of(&val), later)
-        }
-    }
-}
-
-/// The values of a key.
-pub fn key_values(alloc: Global, key: &Key) -> Result<List<Val>, NoMemory>
-    ensures { IfOk result (λ parts. key_values key.now ≡ parts) }
-{
-    let mut parts = List::new(alloc);
-    parts.push(key.first)?;
-    if let Some(second) = key.second {
-        parts.push(second)?;
-    }
-    Ok(parts)
-}
-
-/// The values of a row that isn't kept.
-pub fn zeros(alloc: Global, table: &Table, key: &Key) -> Result<List<Got>, NoMemory>
-    requires { length (declaration_of table.now).columns ≤ 16 }
-    ensures { IfOk result (λ row. row ≡ map got_of (zero_values (declaration_of table.now) key.now)) }
-{
-    let parts = key_values(alloc, key)?;
-    zeros_from(alloc, table, parts.items(), 0, &table.columns)
 }
 
 /// Appends a key.

@@ -6,9 +6,9 @@ ghost use Rattle.sv_app.specs.Units.{unit_of, block_loops, command_loops};
 ghost use Rattle.sv_interp.specs.Machine.{Splits};
 
 use crate::scopes::is_among;
-use crate::slots::prepend;
 use std::alloc::Global;
 use sv_app::{Parts, Source, Stmt, parts_of};
+use sv_effect::prepend;
 use sv_value::{List, NoMemory};
 
 /// The first statement and the others.

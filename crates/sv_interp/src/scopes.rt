@@ -9,6 +9,7 @@ ghost use Rattle.sv_interp.specs.Machine.{progress_of, scope_of};
 
 use std::alloc::Global;
 use sv_app::{Got, Source};
+use sv_effect::column;
 use sv_value::{List, NoMemory, Val};
 
 /// An instance that isn't complete.
@@ -54,16 +55,6 @@ pub fn is_among(col: u16, known: &[u16]) -> bool
     ensures { result ≡ list_any (λ d. col == d) known.now }
 {
     known.iter().any(|other| col == *other)
-}
-
-/// A column by its number; one that isn't there counts as zero.
-pub fn column(row: &[Got], col: u16) -> Got
-    ensures { result ≡ column row.now col }
-{
-    match row.get(col as usize) {
-        Some(got) => *got,
-        None => Got::Num(0),
-    }
 }
 
 impl Progress {

@@ -8,7 +8,7 @@ use sv_app::Got;
 use sv_value::{List, NoMemory, Val};
 
 /// Puts a value at its number, with the number 0 where nothing was put before it.
-#[tactic(auto, using(crate::proofs::SlotLaws::slots))]
+#[tactic(auto, using(sv_effect::proofs::SlotLaws::slots))]
 pub fn put_value(values: &mut Vec<Val>, number: u16, val: &Val) -> Result<(), NoMemory>
     ensures { OnOk result (values.new.items ≡ with_item nothing number val.now values.old.items) }
 {
@@ -25,7 +25,7 @@ pub fn put_value(values: &mut Vec<Val>, number: u16, val: &Val) -> Result<(), No
 }
 
 /// The same of rows, with empty ones before it.
-#[tactic(auto, using(crate::proofs::SlotLaws::slots))]
+#[tactic(auto, using(sv_effect::proofs::SlotLaws::slots))]
 pub fn put_row(
     alloc: Global,
     rows: &mut Vec<List<Got>>,
@@ -44,30 +44,4 @@ pub fn put_row(
         rows.push(row)?;
     }
     Ok(())
-}
-
-/// The same of the values of a row.
-#[tactic(auto, using(crate::proofs::SlotLaws::slots))]
-pub fn put_got(row: &mut Vec<Got>, number: u16, got: &Got) -> Result<(), NoMemory>
-    ensures { OnOk result (row.new.items ≡ with_item (gots.Num (pos 0)) number got.now row.old.items) }
-{
-    let at = number as usize;
-    while row.len() < at {
-        row.push(Got::Num(0))?;
-    }
-    if at < row.len() {
-        row[at] = *got;
-    } else {
-        row.push(*got)?;
-    }
-    Ok(())
-}
-
-/// The list with an item before it.
-pub fn prepend<T: Drop>(first: T, rest: List<T>) -> Result<List<T>, NoMemory>
-    ensures { IfOk result (λ list. list ≡ first ∷ rest) }
-{
-    let mut items = rest.into_vec();
-    items.insert(0, first)?;
-    Ok(List::from_vec(items))
 }

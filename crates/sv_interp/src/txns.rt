@@ -21,11 +21,10 @@ use crate::needs::needs;
 use crate::runs::run_all;
 use crate::scopes::Scope;
 use crate::settings::Setting;
-use crate::slots::prepend;
 use crate::states::{State, beginning, instance_of};
 use std::alloc::Global;
 use sv_app::{App, Arg, Stmt, Table};
-use sv_effect::{Halt, Noted, Outcome, Ran, Read, Rows};
+use sv_effect::{Halt, Noted, Outcome, Ran, Read, Rows, prepend};
 use sv_value::{List, NoMemory, Val};
 
 fn argument(arg: &Arg) -> Val

@@ -8,9 +8,10 @@ ghost use Rattle.sv_effect.specs.RunValues.{narrow, val_of, integer, read_variab
 ghost use Rattle.sv_effect.specs.TablesOfCut.{number_in};
 ghost use Rattle.sv_interp.specs.Machine.{scope_of, evaluated};
 
-use crate::scopes::{Scope, column};
+use crate::scopes::Scope;
 use std::cmp::Ordering;
 use sv_app::{Cond, Expr, Got, Rel, Source};
+use sv_effect::column;
 use sv_value::{NoMemory, Val};
 
 /// The number, if it is one of 64 bits.

@@ -8,23 +8,12 @@ ghost use Rattle.sv_effect.specs.RunChanges.{written_got, with_write, with_write
 ghost use Rattle.sv_effect.specs.RunValues.{column, values_of, Scope as RunScope};
 ghost use Rattle.sv_interp.specs.Machine.{scope_of, evaluated, as_evaluated};
 
-use crate::scopes::{Scope, column};
-use crate::slots::{prepend, put_got};
+use crate::scopes::Scope;
 use crate::values::{read_old, subtracted, val_of, value};
 use std::alloc::Global;
 use sv_app::{Column, Expr, Got, Ident, Kind, Merge};
-use sv_effect::Write;
+use sv_effect::{Write, column, got_of, prepend, put_got};
 use sv_value::{List, NoMemory, Val};
-
-/// A value as it stands in a row.
-pub fn got_of(val: &Val) -> Got
-    ensures { result ≡ got_of val.now }
-{
-    match val {
-        Val::Int(number) => Got::Num(*number as i128),
-        Val::Text(text) => Got::Text(*text),
-    }
-}
 
 /// A value after a write; none where it leaves 128 bits.
 fn written(write: &Write, old: &Got) -> Option<Got>

@@ -1,7 +1,7 @@
 use Rattle.std.proofs.Common.{◌≡◌, ◌-◌, length, pos}
 use Rattle.sv_app.specs.declared.gots.Got.TheVariants as gots
 use Rattle.sv_app.specs.Slots.{with_item}
-use Rattle.sv_check.proofs.writes.put_got.Given as goal
+use Rattle.sv_effect.proofs.values.put_got.Given as goal
 
 abbrev pub invariant-loop-row : goal.invariant-loop-row
 invariant-loop-row l = with_item (gots.Num (pos 0)) l.number l.got l.row.items ≡ with_item (gots.Num (pos 0)) l.number l.got l.fn.row.items
