@@ -3,6 +3,7 @@ pub mod ValueLaws
 pub mod JudgeLaws
 pub mod LoopLaws
 pub mod MarkLaws
+pub mod PlaceLaws
 pub mod RowLaws
 pub mod InitLaws
 pub mod CommaLaws

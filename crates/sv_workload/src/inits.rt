@@ -9,6 +9,7 @@ ghost use Rattle.sv_workload.specs.Reading.{table_meant, as_item, row_from, row_
 ghost use Rattle.sv_workload.specs.Rows.{init_row};
 
 use crate::rows::{crowded, init_row, row_fault, table_place};
+use crate::so_far::RowsSoFar;
 use crate::values::row;
 use std::alloc::Global;
 use sv_app::{Code, Ident, InitRow, Table, is_reserved};
@@ -56,13 +57,13 @@ fn row_of(
     alloc: Global,
     reader: &mut Reader<'_>,
     tables: &[Table],
-    rows: &[InitRow],
+    rows: &RowsSoFar,
     place: usize,
 ) -> Result<InitRow, ReadStop>
     requires few { length tables.now ≤ 16 }
     requires within { place < length tables.now }
     requires meant { table_meant (schema_of tables.now) reader.old.rest.now ≡ slice_get (schema_of tables.now) place }
-    ensures { Reads (λ row. row) result reader.new.rest.now (as_item (init_row (schema_of tables.now)) (row_from (schema_of tables.now) rows.now reader.old.rest.now)) }
+    ensures { Reads (λ row. row) result reader.new.rest.now (as_item (init_row (schema_of tables.now)) (row_from (schema_of tables.now) rows.now.rows reader.old.rest.now)) }
 {
     let start = reader.rest.len();
     match row(alloc, reader) {
@@ -90,10 +91,10 @@ fn next_row(
     alloc: Global,
     reader: &mut Reader<'_>,
     tables: &[Table],
-    rows: &[InitRow],
+    rows: &RowsSoFar,
 ) -> Result<InitRow, ReadStop>
     requires few { length tables.now ≤ 16 }
-    ensures { Reads (λ row. row) result reader.new.rest.now (as_item (init_row (schema_of tables.now)) (row_from (schema_of tables.now) rows.now reader.old.rest.now)) }
+    ensures { Reads (λ row. row) result reader.new.rest.now (as_item (init_row (schema_of tables.now)) (row_from (schema_of tables.now) rows.now.rows reader.old.rest.now)) }
 {
     match table_meant(tables, reader.rest) {
         Some(place) => row_of(alloc, reader, tables, rows, place),
@@ -107,12 +108,12 @@ fn rows(alloc: Global, reader: &mut Reader<'_>, tables: &[Table]) -> Result<List
     requires few { length tables.now ≤ 16 }
     ensures { Reads (λ rows. rows) result reader.new.rest.now (rows_from (schema_of tables.now) [] reader.old.rest.now) }
 {
-    let mut rows = List::new(alloc);
+    let mut rows = RowsSoFar::none(alloc);
     while reader.is_name() {
-        let next = next_row(alloc, reader, tables, rows.items())?;
-        rows.push(next)?;
+        let next = next_row(alloc, reader, tables, &rows)?;
+        rows = rows.and(next)?;
     }
-    Ok(rows)
+    Ok(rows.into_rows())
 }
 
 fn is_percents(token: &Token) -> bool

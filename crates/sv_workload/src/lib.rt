@@ -15,6 +15,7 @@ mod replays;
 mod rows;
 mod sessions;
 mod settings;
+mod so_far;
 mod values;
 mod written;
 

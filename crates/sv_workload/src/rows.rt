@@ -5,11 +5,12 @@ ghost use Rattle.sv_app.specs.Schema.{declaration_of, schema_of};
 ghost use Rattle.sv_app.specs.Slots.{item};
 ghost use Rattle.sv_effect.specs.RunChanges.{key_in};
 ghost use Rattle.sv_effect.specs.RunValues.{nothing};
-ghost use Rattle.sv_workload.specs.Reading.{has_type, values_fit, repeated, row_fault, crowded};
+ghost use Rattle.sv_workload.specs.Reading.{has_type, values_fit, row_fault, crowded};
 ghost use Rattle.sv_workload.specs.Rows.{init_row};
 
+use crate::so_far::RowsSoFar;
 use crate::written::Row;
-use sv_app::{Code, Column, Ident, InitRow, Place, Table, Ty};
+use sv_app::{Code, Column, Ident, InitRow, Table, Ty};
 use sv_value::{Key, Val};
 
 /// The most initial rows of a document.
@@ -62,23 +63,6 @@ fn values_fit(columns: &[Column], values: &[Val]) -> bool
             [] => false,
         },
     }
-}
-
-fn place_of(row: &InitRow) -> Place
-    ensures { result ≡ record { table = row.now.table; key = row.now.key } }
-{
-    Place {
-        table: row.table,
-        key: row.key,
-    }
-}
-
-/// Whether one of these rows stands at the place of the last one.
-fn repeated(rows: &[InitRow], row: &InitRow) -> bool
-    ensures { result ≡ repeated rows.now row.now }
-{
-    rows.iter()
-        .any(|other| place_of(other).cmp(&place_of(row)).is_eq())
 }
 
 fn value_of(values: &[Val], column: &Ident) -> Val
@@ -135,13 +119,13 @@ pub fn init_row(tables: &[Table], row: Row) -> InitRow
 }
 
 /// What is wrong with a row of the table, behind these rows.
-pub fn row_fault(table: &Table, rows: &[InitRow], row: &InitRow) -> Option<Code>
-    ensures { result ≡ row_fault (declaration_of table.now) rows.now row.now }
+pub fn row_fault(table: &Table, rows: &RowsSoFar, row: &InitRow) -> Option<Code>
+    ensures { result ≡ row_fault (declaration_of table.now) rows.now.rows row.now }
 {
     if row.values.len() != table.columns.len() {
         return Some(Code::Typing);
     }
-    if repeated(rows, row) {
+    if rows.has_place_of(row) {
         return Some(Code::Twice);
     }
     if values_fit(&table.columns, row.values.items()) {
@@ -151,10 +135,10 @@ pub fn row_fault(table: &Table, rows: &[InitRow], row: &InitRow) -> Option<Code>
 }
 
 /// Whether no row may stand behind these.
-pub fn crowded(rows: &[InitRow]) -> Option<Code>
-    ensures { result ≡ crowded rows.now }
+pub fn crowded(rows: &RowsSoFar) -> Option<Code>
+    ensures { result ≡ crowded rows.now.rows }
 {
-    if rows.len() >= MOST_ROWS {
+    if rows.rows.len() >= MOST_ROWS {
         return Some(Code::Many);
     }
     None
