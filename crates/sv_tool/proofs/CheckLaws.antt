@@ -36,8 +36,10 @@ use Rattle.sv_workload.specs.declared.parts.Parts.{Parts}
 use Rattle.sv_workload.specs.Documents.{AreParts}
 use Rattle.sv_workload.specs.Documents as workload
 use Rattle.sv_tool.specs.CheckText.{AreWhole, AreBehind, AreAccepted, IsLater, InParts, IsRefusalBehind, IsRefusal, Behind, Sizes, sizes_of, sizes_in, IsAcceptedAs, IsDocument, code_of, accepted_with, refused_with, IsCheckAnswer, Accepts, Long, Faulty, Refuses}
-use Rattle.sv_tool.specs.Answer.{Answer, at_the_front, form_answer, form_among}
-use Rattle.sv_tool.specs.Commands.{IsAnswerOf}
+use Rattle.sv_tool.specs.Answer.{Answer, at_the_front, form_answer, form_among, answer_to}
+use Rattle.sv_tool.specs.Commands.{IsAnswerOf, IsAnswerTo}
+use Rattle.sv_tool.specs.Statuses.{status_number}
+use Rattle.sv_tool.specs.declared.statuses.Status.TheVariants.{Done}
 use Rattle.sv_tool.specs.declared.words.Command.{Command}
 use Rattle.sv_tool.specs.declared.words.Command.TheVariants.{Replay, Check}
 use Rattle.sv_app.specs.declared.refusals.Code.TheVariants.{TooLong}
@@ -232,10 +234,72 @@ long_answer Replay bytes answer long is = is ∙ sym (ap (λ b. form_answer (con
     high = grind (arith, nat_tests, long)
 long_answer Check bytes answer long is = subst (IsCheckAnswer bytes) (sym is) (Long long)
 
--- what is answered to too many bytes
-pub long_answers : (command : Command) (left now : Option (List ℕ)) (answer : Answer) → Passed left now (most_bytes + 1) → answer ≡ refused_with (at_the_front TooLong)
-    → IfSome left (λ bytes. IsAnswerOf command bytes answer)
-long_answers command None now answer long is = tt
-long_answers command (Some bytes) now answer long is = let more : most_bytes + 1 ≤ length bytes = long.0 in long_answer command bytes answer (omega (arith, more)) is
+zeros : ℕ → List ℕ
+zeros zero = []
+zeros (suc n) = 0 ∷ zeros n
+
+length_zeros : (n : ℕ) → length (zeros n) ≡ n
+unfolding zeros
+length_zeros zero = refl
+length_zeros (suc n) = let ih : length (zeros n) ≡ n = length_zeros n in omega (arith, ih)
+
+-- what is answered to too many bytes, and to some where they aren't told
+pub long_answers : (command : Command) (left now : Option (List ℕ)) (answer : Answer) → Passed left now (most_bytes + 1) → answer ≡ refused_with (at_the_front TooLong) → IsAnswerTo (IsAnswerOf command) left answer
+long_answers command None now answer long is =
+    let more : most_bytes + 1 ≡ length (zeros (most_bytes + 1)) = sym (length_zeros (most_bytes + 1)) in
+    record { bytes = zeros (most_bytes + 1); are = tt; is = long_answer command (zeros (most_bytes + 1)) answer (omega (arith, more)) is }
+long_answers command (Some bytes) now answer long is = let more : most_bytes + 1 ≤ length bytes = long.0 in record { bytes = bytes; are = refl; is = long_answer command bytes answer (omega (arith, more)) is }
+
+is_done : (answer : Answer) (refusal : Refusal) → answer.status ≡ Done → answer ≡ refused_with refusal → ⊥
+is_done answer refusal done is = let one : 1 ≡ 0 = ap (λ (a : Answer). status_number a.status) (sym is) ∙ ap status_number done in omega (arith, one)
+
+-- too many bytes are refused
+long_refused : (command : Command) (bytes : List ℕ) (answer : Answer) → most_bytes < length bytes → IsAnswerOf command bytes answer → answer.status ≡ Done → ⊥
+long_refused Replay bytes answer long is done = is_done answer (at_the_front TooLong) done (is ∙ ap (λ b. form_answer (cond b (Err (at_the_front TooLong)) (form_among (lexed bytes)))) high)
+  where
+    high : nat_lt most_bytes (length bytes) ≡ true
+    high = grind (arith, nat_tests, long)
+long_refused Check bytes answer long is done = refused answer is done
+  where
+    refused : (answer : Answer) → IsCheckAnswer bytes answer → answer.status ≡ Done → ⊥
+    refused answer (Accepts schema txns d) done = let short : length bytes ≤ most_bytes = d.short in omega (arith, long, short)
+    refused answer (Long more) done = is_done answer (at_the_front TooLong) done refl
+    refused answer (Faulty fault short are) done = omega (arith, long, short)
+    refused answer (Refuses tokens refusal short are is) done = omega (arith, long, short)
+
+pub long_only : (command : Command) (left now : Option (List ℕ)) (answer : Answer) → Passed left now (most_bytes + 1)
+    → IfSome left (λ bytes. (other : Answer) → IsAnswerOf command bytes other → other.status ≡ Done → answer ≡ other)
+long_only command None now answer long = tt
+long_only command (Some bytes) now answer long = λ other is done. let more : most_bytes + 1 ≤ length bytes = long.0 in absurd (long_refused command bytes other (omega (arith, more)) is done)
+
+-- a document that isn't refused has one answer
+pub replay_only : (bytes : List ℕ) (result : Result CodeAnswer OutOfMemory) (other : Answer) → IfOk result (λ answer. said_by answer ≡ answer_to bytes) → IsAnswerOf Replay bytes other
+    → IfOk result (λ answer. said_by answer ≡ other)
+replay_only bytes (Ok answer) other said is = said ∙ sym is
+replay_only bytes (Err none) other said is = tt
+
+pub check_only : (bytes : List ℕ) (result : Result CodeAnswer OutOfMemory) (other : Answer)
+    → ((schema : List Declaration) (txns : List Transaction) → IsDocument bytes schema txns → IfOk result (λ answer. said_by answer ≡ accepted_with (sizes_of schema txns)))
+    → IsAnswerOf Check bytes other → other.status ≡ Done → IfOk result (λ answer. said_by answer ≡ other)
+check_only bytes result other all is done = by other is done
+  where
+    by : (other : Answer) → IsCheckAnswer bytes other → other.status ≡ Done → IfOk result (λ answer. said_by answer ≡ other)
+    by other (Accepts schema txns d) done = all schema txns d
+    by other (Long more) done = absurd (is_done other (at_the_front TooLong) done refl)
+    by other (Faulty fault short are) done = absurd (is_done other (record { spot = spot_at bytes (place_of fault); code = code_of fault }) done refl)
+    by other (Refuses tokens refusal short are is) done = absurd (is_done other refusal done refl)
+
+-- bytes that were read whole
+pub whole_answers : (command : Command) (left : Option (List ℕ)) (bytes : List ℕ) (answer : Answer) → IfSome left (λ told. bytes ≡ told) → IsAnswerOf command bytes answer → IsAnswerTo (IsAnswerOf command) left answer
+whole_answers command None bytes answer told is = record { bytes = bytes; are = tt; is = is }
+whole_answers command (Some left) bytes answer told is = record { bytes = bytes; are = sym told; is = is }
+
+pub whole_only : (command : Command) (left : Option (List ℕ)) (bytes : List ℕ) (answer : Answer) → IfSome left (λ told. bytes ≡ told)
+    → ((other : Answer) → IsAnswerOf command bytes other → other.status ≡ Done → answer ≡ other)
+    → IfSome left (λ told. (other : Answer) → IsAnswerOf command told other → other.status ≡ Done → answer ≡ other)
+whole_only command None bytes answer told only = tt
+whole_only command (Some left) bytes answer told only = λ other is done. only other (subst (λ b. IsAnswerOf command b other) (sym told) is) done
+
+pub ruleset answers = (long_answers, long_only, whole_answers, whole_only)
 
 pub ruleset documents = (document_of_tokens, tokens_of_document, no_document)

@@ -4,6 +4,7 @@ pub mod CheckLaws
 pub mod DistinctLaws
 pub mod FitLaws
 pub mod FormLaws
+pub mod HeadlineLaws
 pub mod KindLaws
 pub mod LeafLaws
 pub mod ListLaws

@@ -5,6 +5,7 @@ pub mod CheckText
 pub mod Commands
 pub mod Form
 pub mod Grammar
+pub mod Headline
 pub mod Lines
 pub mod ReadDocument
 pub mod Reading

@@ -11,13 +11,10 @@ ghost use Rattle.sv_lex.specs.Lexers.{fault_of};
 ghost use Rattle.sv_tool.specs.ReplayText.{steps_text};
 ghost use Rattle.sv_tool.specs.ReadDocument.{table_name, ReadsAs, said_by};
 ghost use Rattle.sv_tool.specs.CanMake.{CanMakeAll};
-ghost use Rattle.sv_app.specs.Schema.{Declaration};
-ghost use Rattle.sv_app.specs.Trees.{Transaction};
-ghost use Rattle.sv_tool.specs.CheckText.{IsDocument, sizes_of, accepted_with};
-ghost use Rattle.sv_tool.specs.Commands.{IsAnswerOf};
-ghost use Rattle.sv_tool.specs.declared.words.Command.TheVariants.{Check};
+ghost use Rattle.sv_tool.specs.Commands.{IsAnswerOf, IsAnswerTo};
 ghost use Rattle.sv_tool.specs.declared.statuses.Status.TheVariants.{Done, Refused};
-ghost use Rattle.sv_tool.specs.Answer.{at_the_front, answer_to, form_answer, form_among};
+ghost use Rattle.sv_tool.specs.Statuses.{status_of};
+ghost use Rattle.sv_tool.specs.Answer.{Answer as AnswerTold, at_the_front, answer_to, form_answer, form_among};
 
 use crate::checks::check_answer;
 use crate::reader_replays::read_replay;
@@ -48,6 +45,18 @@ pub enum Halt {
     SourceFailed,
     /// There was no memory.
     NoMemory,
+}
+
+impl Halt {
+    /// How the program ends without an answer.
+    pub fn status(self) -> Status
+        ensures { result ≡ status_of self }
+    {
+        match self {
+            Halt::SourceFailed => Status::SourceFailed,
+            Halt::NoMemory => Status::NoMemory,
+        }
+    }
 }
 
 impl From<NoMemory> for Halt {
@@ -158,7 +167,8 @@ fn answer_to(alloc: Global, bytes: &[u8]) -> Result<Answer, NoMemory>
 fn answer_of(alloc: Global, command: Command, bytes: &[u8]) -> Result<Answer, NoMemory>
     requires { length bytes.now ≤ most_bytes }
     ensures answer { IfOk result (λ answer. IsAnswerOf command bytes.now (said_by answer)) }
-    ensures accepted { (schema : List Declaration) (txns : List Transaction) → command ≡ Check → IsDocument bytes.now schema txns → IfOk result (λ answer. said_by answer ≡ accepted_with (sizes_of schema txns)) }
+    // a document that isn't refused has one answer
+    ensures only { (other : AnswerTold) → IsAnswerOf command bytes.now other → other.status ≡ Done → IfOk result (λ answer. said_by answer ≡ other) }
 {
     match command {
         Command::Replay => answer_to(alloc, bytes),
@@ -171,15 +181,15 @@ fn answer_of(alloc: Global, command: Command, bytes: &[u8]) -> Result<Answer, No
 /// # Errors
 ///
 /// `SourceFailed` only where the source's count of faults rose, and `NoMemory`.
-#[tactic(auto, using(crate::proofs::CheckLaws::long_answers))]
+#[tactic(auto, using(crate::proofs::CheckLaws::answers))]
 pub fn answer_from<S: Source>(
     alloc: Global,
     command: Command,
     input: &mut S,
 ) -> Result<Answer, Halt>
-    ensures answer { IfOk result (λ answer. IfSome (S.left input.old) (λ bytes. IsAnswerOf command bytes (said_by answer))) }
-    ensures accepted { IfOk result (λ answer. IfSome (S.left input.old) (λ bytes. (schema : List Declaration) (txns : List Transaction) → command ≡ Check → IsDocument bytes schema txns
-        → said_by answer ≡ accepted_with (sizes_of schema txns))) }
+    ensures answer { IfOk result (λ answer. IsAnswerTo (IsAnswerOf command) (S.left input.old) (said_by answer)) }
+    // a document that isn't refused has one answer
+    ensures only { IfOk result (λ answer. IfSome (S.left input.old) (λ bytes. (other : AnswerTold) → IsAnswerOf command bytes other → other.status ≡ Done → said_by answer ≡ other)) }
     ensures status { IfOk result (λ answer. (answer.status ≡ Done) ⊎ (answer.status ≡ Refused)) }
     ensures end { IfOk result (λ answer. answer.status ≡ Done → IsAtEnd (S.left input.new)) }
     ensures failed { IsErrOf result Halt.SourceFailed → Rose (S.faults input.old) (S.faults input.new) }
