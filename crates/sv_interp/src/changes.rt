@@ -12,6 +12,7 @@ use crate::states::{OwnRow, State};
 use crate::writes::{make_writes, sets_made};
 use arrayvec::ArrayVec;
 use std::alloc::Global;
+use sv_app::limits::MOST_EFFECTS;
 use sv_app::{Act, Expr, Got, Ident, Place, Table};
 use sv_effect::{Outcome, RowEffect, Write, zeros};
 use sv_value::{List, NoMemory, Val};
@@ -39,7 +40,7 @@ fn change(
     requires { length writes.now ≤ 16 }
     ensures { IfOk result (λ end. (t : Tables) → changed (record { place = place.now; act = act; writes = writes.now; instance = state.old.scope.progress.number }) (own_row row) (stand t state.old) ≡ flow_of end (stand t state.new)) }
 {
-    if state.effects.len() >= 64 {
+    if state.effects.len() >= MOST_EFFECTS {
         return Ok(Some(Outcome::TooLarge));
     }
     let effect = RowEffect {

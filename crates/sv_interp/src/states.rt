@@ -10,6 +10,7 @@ use crate::slots::{put_row, put_value};
 use arrayvec::ArrayVec;
 use std::alloc::Global;
 use std::mem::replace;
+use sv_app::limits::MOST_REPLIES;
 use sv_app::{Act, Got, Instance, Place, Source, Stmt};
 use sv_effect::{Outcome, RowEffect, Write};
 use sv_value::{List, NoMemory, Val};
@@ -77,7 +78,7 @@ impl State {
     pub fn reply(&mut self, val: &Val) -> Result<Option<Outcome>, NoMemory>
         ensures { IfOk result (λ end. (t : Tables) → replied val.now (stand t self.old) ≡ flow_of end (stand t self.new)) }
     {
-        if self.replies.len() >= 16 {
+        if self.replies.len() >= MOST_REPLIES {
             return Ok(Some(Outcome::TooLarge));
         }
         self.replies.push(*val)?;

@@ -6,13 +6,11 @@ ghost use Rattle.sv_schema_reader.specs.Reading.{text_step, texts_at, compared_a
 use crate::checks::{check_of, fixed_side, order, side, side_of};
 use crate::parts::Side;
 use std::alloc::Global;
+use sv_app::limits::MOST_TEXTS;
 use sv_app::{Code, Ident, InvBody};
 use sv_lex::Mark;
 use sv_reader::{ReadFault, ReadStop, Reader};
 use sv_value::{Spot, Text};
-
-/// The most texts of a list.
-const MOST_TEXTS: usize = 16;
 
 /// An invariant and the place of its first word.
 #[derive(Debug, Drop)]

@@ -6,19 +6,11 @@ ghost use Rattle.sv_reader.specs.Reading.{Reads, list_at};
 use crate::columns::{KeyNames, column, key, table_kind};
 use crate::invariants::{Demanded, demands, invariant};
 use std::alloc::Global;
+use sv_app::limits::{MOST_COLUMNS, MOST_INVARIANTS, MOST_TABLES};
 use sv_app::{Code, Ident, Inv, Kind, Refusal, Stop, Table};
 use sv_lex::{Mark, Token};
 use sv_reader::{ReadStop, Reader};
 use sv_value::{NoMemory, Spot};
-
-/// The most tables of a document.
-const MOST_TABLES: usize = 16;
-
-/// The most columns of a table.
-const MOST_COLUMNS: usize = 16;
-
-/// The most invariants of a table.
-const MOST_INVARIANTS: usize = 16;
 
 /// Adds a primary key: the first one is the table's, of the second its first name is kept.
 fn add_key(table: &mut Table, names: &KeyNames) -> Result<(), NoMemory>

@@ -12,15 +12,10 @@ use crate::statements::{
     abort, assign, get, insert, let_statement, remove, reply, update, where_part,
 };
 use std::alloc::Global;
+use sv_app::limits::{MOST_LOOPS, MOST_STATEMENTS};
 use sv_app::{Stmt, each, if_else, rows};
 use sv_lex::Mark;
 use sv_reader::{ReadStop, Reader};
-
-/// The most statements of a transaction, with those that stand in others.
-const MOST_STATEMENTS: usize = 128;
-
-/// The most loops of a transaction.
-const MOST_LOOPS: usize = 15;
 
 /// Whether a block goes on.
 fn goes_on(reader: &Reader<'_>) -> bool

@@ -6,12 +6,13 @@ ghost use Rattle.sv_txn_reader.specs.Reading.{relation_named, relation_of, compa
 use crate::graded::Judged;
 use crate::terms::sums;
 use std::alloc::{AllocError, Global};
+use sv_app::limits::MOST_DEPTH;
 use sv_app::{Cond, Rel};
 use sv_lex::{Mark, Token, TokenKind};
 use sv_reader::{ReadStop, Reader};
 
 /// How much deeper a condition may be than a comparison of names: at most 16 deep.
-const MOST_EXTRA: usize = 14;
+const MOST_EXTRA: usize = MOST_DEPTH - 2;
 
 fn relation_named(mark: Mark) -> Option<Rel>
     ensures { result ≡ relation_named mark }

@@ -9,15 +9,10 @@ use crate::counts::Counts;
 use crate::terms::expr;
 use crate::values::{index, sets, setting, values};
 use std::alloc::Global;
+use sv_app::limits::{MOST_CODE, MOST_VARIABLES};
 use sv_app::{Cond, Stmt};
 use sv_lex::{Mark, Token, TokenKind};
 use sv_reader::{ReadStop, Reader};
-
-/// The most variables of a transaction.
-const MOST_VARIABLES: usize = 32;
-
-/// The greatest number of an abort.
-const MOST_CODE: i64 = 999;
 
 /// Reads a declaration, if there is room for one more variable.
 #[tactic(auto, unfolding(crate::specs::Reading::let_at))]

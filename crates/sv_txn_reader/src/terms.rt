@@ -7,13 +7,14 @@ ghost use Rattle.sv_txn_reader.specs.Reading.{literal_of, field_at, old_at, leaf
 
 use crate::graded::Graded;
 use std::alloc::{AllocError, Global};
+use sv_app::limits::MOST_DEPTH;
 use sv_app::{Expr, Ident};
 use sv_lex::{Mark, Token, TokenKind};
 use sv_reader::{ReadStop, Reader};
 use sv_value::Spot;
 
 /// How much deeper an expression may be than a name: at most 16 deep.
-const MOST_EXTRA: usize = 15;
+const MOST_EXTRA: usize = MOST_DEPTH - 1;
 
 /// The place of an expression.
 fn spot_of(expr: &Expr) -> Spot

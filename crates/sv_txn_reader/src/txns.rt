@@ -6,18 +6,10 @@ ghost use Rattle.sv_txn_reader.specs.Reading.{type_named, param_at, item_step, i
 use crate::blocks::block;
 use crate::counts::Counts;
 use std::alloc::Global;
+use sv_app::limits::{MOST_BLOCKS, MOST_PARAMS, MOST_TXNS};
 use sv_app::{Ident, Txn, Ty};
 use sv_lex::{Mark, Token, TokenKind};
 use sv_reader::{ReadStop, Reader};
-
-/// The most transactions of a document.
-const MOST_TXNS: usize = 32;
-
-/// The most parameters of a transaction.
-const MOST_PARAMS: usize = 16;
-
-/// How deep blocks nest at most.
-const MOST_BLOCKS: usize = 8;
 
 fn type_named(word: &[u8]) -> Option<Ty>
     ensures { result ≡ type_named word.now }

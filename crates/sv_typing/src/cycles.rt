@@ -6,10 +6,8 @@ ghost use Rattle.sv_app.specs.References.{referred, refers, Leads, IsOnCycle, Is
 ghost use Rattle.sv_typing.specs.Reached.{is_in, AreLedTo, IsApart, IsClosed};
 
 use crate::named::place_of;
+use sv_app::limits::MOST_TABLES;
 use sv_app::{Code, InvBody, Refusal, Table};
-
-/// The most tables of a schema.
-const MOST_TABLES: usize = 16;
 
 /// The number of the table that an invariant refers to.
 #[tactic(auto, using(crate::proofs::LookupLaws::names_declared))]

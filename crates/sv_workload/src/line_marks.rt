@@ -13,22 +13,11 @@ use crate::settings::out_mark;
 use crate::values::natural_of;
 use crate::written::{Color, Verb};
 use std::alloc::Global;
+use sv_app::limits::{MOST_REQUESTS, MOST_SESSIONS, MOST_SHOWS, MOST_STEPS};
 use sv_app::{App, Code, Table, Txn};
 use sv_lex::Token;
 use sv_reader::{ReadFault, Reader};
 use sv_value::NoMemory;
-
-/// The most steps of a replay.
-const MOST_STEPS: usize = 65_536;
-
-/// The most steps that ask.
-const MOST_ASKS: usize = 8_192;
-
-/// The most steps that show a table.
-const MOST_SHOWS: usize = 64;
-
-/// The greatest session.
-const MOST_SESSIONS: u64 = 64;
 
 /// The greatest number of a packet.
 const MOST_PACKET: u64 = 4_294_967_295;
@@ -41,7 +30,7 @@ fn is_full(steps: &Steps, verb: Verb) -> bool
         return true;
     }
     match verb {
-        Verb::Ask => steps.asks >= MOST_ASKS,
+        Verb::Ask => steps.asks >= MOST_REQUESTS,
         Verb::Show => steps.shows >= MOST_SHOWS,
         _ => false,
     }
@@ -51,7 +40,7 @@ fn most_number(sites: u64, verb: Verb) -> u64
     ensures { result ≡ most_number sites verb }
 {
     match verb {
-        Verb::Ask | Verb::Order => MOST_SESSIONS,
+        Verb::Ask | Verb::Order => MOST_SESSIONS as u64,
         _ => sites,
     }
 }

@@ -5,13 +5,11 @@ ghost use Rattle.sv_workload.specs.Reading.{natural_of, integer_at, argument_at,
 use crate::calls::argument;
 use crate::values::{integer, natural_of};
 use std::alloc::Global;
+use sv_app::limits::MOST_ELEMENTS;
 use sv_app::{Arg, Code, Ident};
 use sv_lex::{Mark, Token};
 use sv_reader::{ReadFault, ReadStop, Reader};
 use sv_value::NoMemory;
-
-/// The most elements of a list.
-const MOST_ELEMENTS: usize = 64;
 
 /// Whether a number begins here.
 fn begins_number(tokens: &[Token]) -> bool

@@ -10,11 +10,9 @@ ghost use Rattle.sv_workload.specs.Rows.{init_row};
 
 use crate::so_far::RowsSoFar;
 use crate::written::Row;
+use sv_app::limits::MOST_INIT_ROWS;
 use sv_app::{Code, Column, Ident, InitRow, Table, Ty};
 use sv_value::{Key, Val};
-
-/// The most initial rows of a document.
-const MOST_ROWS: usize = 4_096;
 
 pub fn is_named(name: &Ident, other: &Ident) -> bool
     ensures { result ≡ is_named name.now other.now }
@@ -138,7 +136,7 @@ pub fn row_fault(table: &Table, rows: &RowsSoFar, row: &InitRow) -> Option<Code>
 pub fn crowded(rows: &RowsSoFar) -> Option<Code>
     ensures { result ≡ crowded rows.now.rows }
 {
-    if rows.rows.len() >= MOST_ROWS {
+    if rows.rows.len() >= MOST_INIT_ROWS {
         return Some(Code::Many);
     }
     None

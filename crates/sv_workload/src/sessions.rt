@@ -13,16 +13,11 @@ use crate::settings::out_mark;
 use crate::values::count;
 use crate::written::Call;
 use std::alloc::Global;
+use sv_app::limits::{MOST_REQUESTS, MOST_SESSIONS};
 use sv_app::{Code, Request, Txn};
 use sv_lex::{Mark, Token};
 use sv_reader::{ReadFault, ReadStop, Reader};
 use sv_value::{List, NoMemory};
-
-/// The most requests of a document.
-const MOST_REQUESTS: usize = 8_192;
-
-/// The most sessions of a run.
-const MOST_SESSIONS: usize = 64;
 
 /// The request that a written call stands for.
 pub fn request_of(txns: &[Txn], call: Call) -> Request
