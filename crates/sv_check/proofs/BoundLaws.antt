@@ -1,7 +1,8 @@
 -- Numbers of rows stay within their bounds.
-use Rattle.std.proofs.Common.{◌≡◌, ℕ, zero, suc, ◌+◌, ◌*◌, ◌<◌, ◌≤◌, ℤ, pos, Bool, true, false, List, [], ◌∷◌, ◌-◌, length, get_or, Option, Some, slice_get, refl, sym, ap, subst, ◌∙◌, arith}
+use Rattle.std.proofs.Common.{◌≡◌, ℕ, zero, suc, ◌+◌, ◌*◌, ◌<◌, ◌≤◌, ℤ, pos, Bool, true, false, List, [], ◌∷◌, ◌-◌, length, get_or, Option, Some, None, slice_get, refl, sym, ap, subst, ◌∙◌, arith}
 use Rattle.std.proofs.lemmas.Int.{ints}
 use Rattle.std.proofs.lemmas.Map.Views.{tells_apart}
+use Rattle.std.specs.FinMap.{get, get-empty, empty}
 use Rattle.sv_value.specs.declared.values.Val.{Val}
 use Rattle.sv_value.specs.declared.values.Val.TheVariants as vals
 use Rattle.sv_app.specs.declared.gots.Got.{Got}
@@ -13,23 +14,25 @@ use Rattle.sv_app.specs.declared.schemas.Merge.TheVariants.{NumDelta, Lww, Plain
 use Rattle.sv_app.specs.Lookups.{holds_of}
 use Rattle.sv_app.specs.Schema.{Declaration}
 use Rattle.sv_app.specs.Slots.{with_item}
+use Rattle.sv_app.specs.Tables.{place_cmp, Row}
 use Rattle.sv_app.specs.Typing.{is_numdelta}
 use Rattle.sv_app.proofs.PlaceLaws.{exact_places}
 use Rattle.sv_effect.specs.declared.ops.Write.{Write}
 use Rattle.sv_effect.specs.declared.ops.Write.TheVariants.{Delta, Set}
 use Rattle.sv_effect.specs.BareTables.{got_of}
 use Rattle.sv_effect.specs.declared.ops.RowEffect.{RowEffect}
+use Rattle.sv_effect.specs.declared.left.LeftRow.{LeftRow}
+use Rattle.sv_effect.specs.Agrees.{seen_in}
 use Rattle.sv_effect.specs.Fits.{AreWrites, IsWrite, FitsSchema, AllFit}
-use Rattle.sv_effect.specs.Reads.{SeenValue}
-use Rattle.sv_effect.specs.RowsFit.{IsWord, NumberFits, GotFits, GotsFit, RowFits, SeenFits}
+use Rattle.sv_effect.specs.Overlays.{over, left_row, left_rows, FoundFits}
+use Rattle.sv_effect.specs.RowsFit.{IsWord, NumberFits, GotFits, GotsFit, SeenFits}
 use Rattle.sv_effect.specs.RunChanges.{written_got, with_write, with_writes}
 use Rattle.sv_effect.specs.RunValues.{column}
 use Rattle.sv_effect.specs.Words.{IsWordVal, IsWordGot, AreWordGots}
+use Rattle.sv_effect.proofs.OverlayLaws.{left_here, left_past, found_by}
 use Rattle.sv_effect.proofs.WordLaws.{set_word}
 use Rattle.sv_effect.specs.TablesOfCut.{is_place}
-use Rattle.sv_check.specs.declared.left.LeftRow.{LeftRow}
 use Rattle.sv_check.specs.Bounds.{HasRoom, HaveRoom, IsWordWrite, AreWordWrites, is_counter, AreBounded, IsBounded, LeftBounded, ChangesBounded}
-use Rattle.sv_check.specs.Left.{left_row, left_rows, told_row}
 
 -- what holds of each column holds still where an item of which it holds is put
 pub put_all : (P : ℕ → Got → Type 0) (row : List Got) (c : ℕ) (x : Got) → ((d : ℕ) → P d (column row d)) → P c x → (d : ℕ) → P d (column (with_item (Num (pos 0)) c x row) d)
@@ -164,25 +167,26 @@ fits_words (x ∷ columns) (got ∷ values) h zero plain = fit_word x got plain 
 fits_words (x ∷ columns) (got ∷ values) h (suc c) plain = fits_words columns values h.1 c plain
 
 -- what was told of a row
-pub told_bounded : (schema : List Declaration) (k : ℕ) (place : Place) (seen : SeenValue) → k ≤ 1024 → SeenFits schema place seen → IsBounded schema k place (told_row seen)
-told_bounded schema k place seen le fits = split seen.kept fits
-  where
-    split : (kept : Bool) → RowFits schema place kept seen.present seen.values → IsBounded schema k place (told_row (record { kept = kept; present = seen.present; values = seen.values }))
-    split false h = tt
-    split true h = subst (λ o. AreBounded o k seen.values) (sym h.key.declared) (record {
-      room = record { each = fits_room h.key.table.columns seen.values k le h.fits };
-      words = fits_words h.key.table.columns seen.values h.fits;
-    })
+told_bounded : (schema : List Declaration) (k : ℕ) (place : Place) (found : Option Row) → k ≤ 1024 → SeenFits schema place (seen_in found) → IsBounded schema k place found
+told_bounded schema k place None le h = tt
+told_bounded schema k place (Some row) le h = subst (λ o. AreBounded o k row.values) (sym h.key.declared) (record {
+  room = record { each = fits_room h.key.table.columns row.values k le h.fits };
+  words = fits_words h.key.table.columns row.values h.fits;
+})
 
 -- a row that changes left
-pub bounded_here : (schema : List Declaration) (k : ℕ) (e : Place × LeftRow) (es : List (Place × LeftRow)) (p : Place) → is_place p e.0 ≡ true → LeftBounded schema k (e ∷ es)
-    → IsBounded schema k p (Some (left_row e.1))
-bounded_here schema k e es p same h = subst (λ q. IsBounded schema k q (Some (left_row e.1))) (sym (tells_apart exact_places p e.0 same)) h.0
+left_bounded : (schema : List Declaration) (k : ℕ) (left : List (Place × LeftRow)) (p : Place) → LeftBounded schema k left → IsBounded schema k p (get (over left empty) p)
+left_bounded schema k [] p h = subst (IsBounded schema k p) (sym (get-empty place_cmp p)) tt
+left_bounded schema k (e ∷ es) p h = by_place (is_place p e.0) refl (left_bounded schema k es p h.1)
+  where
+    by_place : (b : Bool) → is_place p e.0 ≡ b → IsBounded schema k p (get (over es empty) p) → IsBounded schema k p (get (over (e ∷ es) empty) p)
+    by_place true same ih = subst (IsBounded schema k p) (sym (left_here e es empty p same)) (subst (λ q. IsBounded schema k q (Some (left_row e.1))) (sym (tells_apart exact_places p e.0 same)) h.0)
+    by_place false other ih = subst (IsBounded schema k p) (sym (left_past e es empty p other)) ih
 
-pub bounded_past : (schema : List Declaration) (k : ℕ) (e : Place × LeftRow) (es : List (Place × LeftRow)) → LeftBounded schema k (e ∷ es) → LeftBounded schema k es
-bounded_past schema k e es h = h.1
-
-pub ruleset looking = (bounded_here, bounded_past, told_bounded)
+-- what was found at a place
+pub found_bounded : (is_of : List Declaration → Type 0) (schema : List Declaration) (k : ℕ) (left : List (Place × LeftRow)) (p : Place) (found : Option Row) → k ≤ 1024 → FoundFits is_of left p found → is_of schema
+    → LeftBounded schema k left → IsBounded schema k p found
+found_bounded is_of schema k left p found le fit is h = found_by (IsBounded schema k p) is_of schema left p found fit is (left_bounded schema k left p h) (told_bounded schema k p found le)
 
 -- the row after a change
 pub some_bounded : (schema : List Declaration) (k : ℕ) (place : Place) (row : LeftRow) (kept : Option LeftRow) → kept ≡ Some row → IsBounded schema k place (left_rows kept) → IsBounded schema k place (Some (left_row row))

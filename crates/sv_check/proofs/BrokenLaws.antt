@@ -15,14 +15,15 @@ use Rattle.sv_app.specs.Schema.{Rule, Declaration, schema_of, rule_of, invariant
 use Rattle.sv_app.specs.Tables.{Row, Tables}
 use Rattle.sv_app.specs.Valid.{value_of, key_by, place_at, Meets, IsListed, IsPresent, Binds, Holds, IsInvariant}
 use Rattle.sv_app.proofs.PlaceLaws.{place_total}
+use Rattle.sv_effect.specs.declared.left.LeftRow.{LeftRow}
 use Rattle.sv_effect.specs.Agrees.{seen_in, seen_at, is_present}
 use Rattle.sv_effect.specs.Faces.{Face}
 use Rattle.sv_effect.specs.Follows.{Follows}
+use Rattle.sv_effect.specs.Overlays.{over, left_row, left_rows, hides}
 use Rattle.sv_effect.specs.Reads.{SeenValue, ReadValue}
 use Rattle.sv_effect.specs.TablesOfCut.{is_place}
 use Rattle.sv_effect.proofs.FollowLaws.{quiet, so, next_to}
-use Rattle.sv_check.specs.declared.left.LeftRow.{LeftRow}
-use Rattle.sv_check.specs.Left.{over, left_row, left_rows, hides, is_left}
+use Rattle.sv_check.specs.Left.{is_left}
 use Rattle.sv_check.specs.Least.{Says, BrokenAt, IsAfter, RowSays, PlaceSays}
 use Rattle.sv_check.specs.Rules.{is_met, is_listed}
 use Rattle.sv_check.proofs.RuleLaws.{clash, meets, met, listed, in_list}

@@ -5,14 +5,14 @@ use Rattle.std.specs.FinMap.{get, insert}
 use Rattle.sv_app.specs.declared.places.Place.{Place}
 use Rattle.sv_app.specs.Schema.{Declaration}
 use Rattle.sv_effect.specs.declared.ops.RowEffect.{RowEffect}
+use Rattle.sv_effect.specs.declared.left.LeftRow.{LeftRow}
 use Rattle.sv_effect.specs.Faces.{Face}
 use Rattle.sv_effect.specs.Follows.{Follows}
 use Rattle.sv_effect.specs.Reads.{ReadValue}
 use Rattle.sv_effect.specs.RunChanges.{Effect, effect_of}
 use Rattle.sv_effect.specs.Effects.{row_after, with_effect, with_effects}
+use Rattle.sv_effect.specs.Overlays.{over, left_row, left_rows}
 use Rattle.sv_effect.proofs.FollowLaws.{quiet, so, next_to}
-use Rattle.sv_check.specs.declared.left.LeftRow.{LeftRow}
-use Rattle.sv_check.specs.Left.{over, left_row, left_rows}
 
 -- a row was looked at, and the row after the change put before the others
 pub change_made : (o n : Face) (a b : Option (List ReadValue)) (schema : List Declaration) (e : Effect) (old new : List (Place × LeftRow)) (kept : Option LeftRow) (row : LeftRow)

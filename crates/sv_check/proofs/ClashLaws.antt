@@ -15,15 +15,15 @@ use Rattle.sv_app.specs.declared.gots.Got.TheVariants.{Num, Text}
 use Rattle.sv_app.specs.declared.places.Place.{Place}
 use Rattle.sv_app.specs.Tables.{Row, Tables}
 use Rattle.sv_app.specs.Valid.{value_of, place_at}
+use Rattle.sv_effect.specs.declared.left.LeftRow.{LeftRow}
 use Rattle.sv_effect.specs.Faces.{Face}
 use Rattle.sv_effect.specs.Follows.{Follows}
 use Rattle.sv_effect.specs.Agrees.{seen_at}
+use Rattle.sv_effect.specs.Overlays.{over, hides, told_row}
 use Rattle.sv_effect.specs.Reads.{SeenValue, ReadValue}
 use Rattle.sv_effect.proofs.FollowLaws.{quiet, so, next_to}
-use Rattle.sv_check.specs.declared.left.LeftRow.{LeftRow}
-use Rattle.sv_check.specs.Left.{over, hides, told_row}
+use Rattle.sv_effect.proofs.OverlayLaws.{told_back}
 use Rattle.sv_check.specs.Clashes.{Pair, same_got, present_value, pair_of, values_of, values_at, Clashes}
-use Rattle.sv_check.proofs.LeftLaws.{told_back}
 use Rattle.sv_check.proofs.ListLaws.{Stands, any_at, Passes, any_passes}
 use Rattle.sv_check.proofs.RuleLaws.{clash}
 use Rattle.sv_check.proofs.SetLaws.{flat_more}

@@ -20,13 +20,14 @@ use Rattle.sv_app.specs.Schema.{Rule, Bound, OneOf, Different, Refers, Invariant
 use Rattle.sv_app.specs.Tables.{Row, Tables}
 use Rattle.sv_app.specs.Valid.{value_of, key_by, place_at, IsKept, IsPresent, Binds, Holds, IsInvariant}
 use Rattle.sv_app.proofs.PlaceLaws.{place_total, exact_places}
+use Rattle.sv_effect.specs.declared.left.LeftRow.{LeftRow}
 use Rattle.sv_effect.specs.Faces.{Face}
 use Rattle.sv_effect.specs.Follows.{Follows}
+use Rattle.sv_effect.specs.Overlays.{over, left_row}
 use Rattle.sv_effect.specs.Reads.{ReadValue}
 use Rattle.sv_effect.specs.TablesOfCut.{is_place}
 use Rattle.sv_effect.proofs.FollowLaws.{quiet, so, next_to}
-use Rattle.sv_check.specs.declared.left.LeftRow.{LeftRow}
-use Rattle.sv_check.specs.Left.{over, left_row, is_left}
+use Rattle.sv_check.specs.Left.{is_left}
 use Rattle.sv_check.specs.Least.{IsLeast, lesser, Says, BrokenAt, IsAfter, has_key, AreCandidates, IsOwn, has_absent, PlaceSays, LeastAmong, LeastBroken, is_touched, walks}
 use Rattle.sv_check.specs.Clashes.{Pair, values_of, values_at, Clashes}
 use Rattle.sv_check.proofs.BrokenLaws.{not_left, from_present}

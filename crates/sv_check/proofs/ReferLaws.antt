@@ -17,10 +17,10 @@ use Rattle.sv_app.specs.Schema.{Rule, Refers, Invariant, Declaration, rule_of, i
 use Rattle.sv_app.specs.Typing.{is_numdelta, no_column, at_column, key_faults, column_faults, referring_faults, referred_faults, target_faults, rule_faults}
 use Rattle.sv_app.specs.Valid.{IsInvariant, value_of}
 use Rattle.sv_app.proofs.AcceptedLaws.{front_none, back_none, each_none, no_fault, table_right}
-use Rattle.sv_check.specs.declared.left.LeftRow.{LeftRow}
+use Rattle.sv_effect.specs.declared.left.LeftRow.{LeftRow}
 use Rattle.sv_effect.specs.Words.{IsWordGot}
+use Rattle.sv_effect.specs.Overlays.{left_row}
 use Rattle.sv_check.specs.Bounds.{is_counter, AreBounded}
-use Rattle.sv_check.specs.Left.{left_row}
 use Rattle.sv_check.proofs.ListLaws.{Stands, contained}
 
 -- the column that is found by its name stands at the place of the name

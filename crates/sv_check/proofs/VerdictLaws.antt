@@ -24,6 +24,7 @@ use Rattle.sv_app.specs.Tables.{Row, Tables}
 use Rattle.sv_app.specs.Valid.{value_of, key_by, place_at, IsKept, IsPresent, Binds, Holds, IsInvariant, Valid, IsBroken, IsFirstBroken}
 use Rattle.sv_app.proofs.PlaceLaws.{place_total, exact_places}
 use Rattle.sv_effect.specs.declared.ops.RowEffect.{RowEffect}
+use Rattle.sv_effect.specs.declared.left.LeftRow.{LeftRow}
 use Rattle.sv_effect.specs.Agrees.{is_present}
 use Rattle.sv_effect.specs.Fits.{FitsSchema, AllFit}
 use Rattle.sv_effect.specs.Faces.{Face}
@@ -33,13 +34,12 @@ use Rattle.sv_effect.specs.RowChange.{turn_of}
 use Rattle.sv_effect.specs.RunChanges.{effect_of, stands}
 use Rattle.sv_effect.specs.Acts.{IsFound}
 use Rattle.sv_effect.specs.Effects.{row_after, with_effect, with_effects, FindsAll}
+use Rattle.sv_effect.specs.Overlays.{over}
 use Rattle.sv_effect.specs.TablesOfCut.{is_place}
 use Rattle.sv_effect.proofs.FollowLaws.{quiet, so, next_to}
-use Rattle.sv_check.specs.declared.left.LeftRow.{LeftRow}
 use Rattle.sv_check.specs.declared.verdicts.Verdict.{Verdict}
 use Rattle.sv_check.specs.declared.verdicts.Verdict.TheVariants.{Keeps, Breaks}
 use Rattle.sv_check.specs.Least.{IsLeast, BrokenAt, IsAfter, LeastBroken}
-use Rattle.sv_check.specs.Left.{over}
 use Rattle.sv_check.specs.Rules.{is_met, is_listed}
 use Rattle.sv_check.specs.Tests.{rules_of}
 use Rattle.sv_check.specs.Verdicts.{IsVerdict, Judges, NoneIn, TableSays, IsFirstOfAll, AllSay}

@@ -13,21 +13,20 @@ use Rattle.sv_value.proofs.OrderLaws.{key_total}
 use Rattle.sv_app.specs.declared.places.Place.{Place}
 use Rattle.sv_app.specs.Tables.{Tables}
 use Rattle.sv_app.specs.Valid.{place_at}
-use Rattle.sv_effect.specs.Agrees.{is_present, is_after, IsNextKey}
+use Rattle.sv_effect.specs.declared.left.LeftRow.{LeftRow}
+use Rattle.sv_effect.specs.Agrees.{is_present, is_after}
 use Rattle.sv_effect.specs.Faces.{Face}
 use Rattle.sv_effect.specs.Follows.{Follows}
+use Rattle.sv_effect.specs.Keys.{Walks}
 use Rattle.sv_effect.specs.Reads.{ReadValue}
+use Rattle.sv_effect.specs.Run.{present_keys}
 use Rattle.sv_effect.specs.TablesOfCut.{is_place}
-use Rattle.sv_effect.proofs.FollowLaws.{quiet, so, next_to}
-use Rattle.sv_check.specs.declared.left.LeftRow.{LeftRow}
+use Rattle.sv_effect.proofs.FollowLaws.{quiet, so}
+use Rattle.sv_effect.proofs.LaidLaws.{present_walk}
 use Rattle.sv_check.specs.Left.{is_left}
-use Rattle.sv_check.specs.Least.{has_key, HasPresent, AreCandidates}
+use Rattle.sv_check.specs.Least.{has_key, AreCandidates}
 use Rattle.sv_check.proofs.LeastLaws.{neither}
 use Rattle.sv_check.proofs.RuleLaws.{clash}
-
--- the keys of present rows up to one are among these
-abbrev pub HasUpTo : Tables → ℕ → Option Key → List Key → Type 0
-HasUpTo t table after keys = (key : Key) → is_present t table key ≡ true → is_after after key ≡ false → has_key key keys ≡ true
 
 or_left_true : (a b : Bool) → a ≡ true → (a || b) ≡ true
 or_left_true true b e = refl
@@ -40,40 +39,18 @@ or_right_true false b e = e
 has_more : (key : Key) (keys more : List Key) → has_key key (keys ++ more) ≡ (has_key key keys || has_key key more)
 has_more key keys more = list_any-append (eq_by_cmp key_cmp key) keys more
 
-has_itself : (key : Key) → has_key key (key ∷ []) ≡ true
-has_itself key = or_left_true (eq_by_cmp key_cmp key key) false ((eq_by_cmp_equiv key_total).refl key)
-
-further : (t : Tables) (table : ℕ) (after : Option Key) (next : Key) (keys : List Key) → IsNextKey t table after (Some next) → HasUpTo t table after keys → HasUpTo t table (Some next) (keys ++ next ∷ [])
-further t table after next keys is up_to key present not_after = has_more key keys (next ∷ []) ∙ split (is_after after key) refl
+-- a present key is among those that are walked
+walk_has : (p : Key → Bool) (after : Option Key) (keys : List Key) (key : Key) → Walks p after keys → is_after after key ≡ true → p key ≡ true → has_key key keys ≡ true
+walk_has p after [] key h later present = clash (p key) present (h key later)
+walk_has p after (k ∷ keys) key h later present = split (is_lt (key_cmp key k)) refl (is_lt (key_cmp k key)) refl (λ more. walk_has p (Some k) keys key h.1 more present)
   where
-    split : (b : Bool) → is_after after key ≡ b → (has_key key keys || has_key key (next ∷ [])) ≡ true
-    split false e = or_left_true (has_key key keys) (has_key key (next ∷ [])) (up_to key present e)
-    split true e = or_right_true (has_key key keys) (has_key key (next ∷ [])) (same (is_lt (key_cmp key next)) refl)
-      where
-        same : (b : Bool) → is_lt (key_cmp key next) ≡ b → has_key key (next ∷ []) ≡ true
-        same true less = clash (is_present t table key) present (is.2 key e less)
-        same false less = ap (λ k. has_key key (k ∷ [])) (sym (neither key next less not_after)) ∙ has_itself key
+    split : (b : Bool) → is_lt (key_cmp key k) ≡ b → (c : Bool) → is_lt (key_cmp k key) ≡ c → (is_after (Some k) key ≡ true → has_key key keys ≡ true) → has_key key (k ∷ keys) ≡ true
+    split true less c e ih = clash (p key) present (h.0.2 key later less)
+    split false less true more ih = or_right_true (eq_by_cmp key_cmp key k) (has_key key keys) (ih more)
+    split false less false not_more ih = or_left_true (eq_by_cmp key_cmp key k) (has_key key keys) (subst (λ j. eq_by_cmp key_cmp key j ≡ true) (neither key k less not_more) ((eq_by_cmp_equiv key_total).refl key))
 
-pub none_walked : (o n : Face) (a b : Option (List ReadValue)) (table : ℕ) (after : Option Key) (keys : List Key) → n ≡ o → b ≡ a → after ≡ None → Follows o n a b (λ t. HasUpTo t table after keys)
-none_walked o n a b table after keys same stands is = quiet o n a b _ same stands (λ t key present not_after. clash (is_after after key) (ap (λ x. is_after x key) is) not_after)
-
-pub one_walked : (o m n : Face) (a b c : Option (List ReadValue)) (table : ℕ) (after found : Option Key) (next : Key) (keys : List Key)
-    → Follows o m a b (λ t. HasUpTo t table after keys) → Follows m n b c (λ t. IsNextKey t table after found) → found ≡ Some next
-    → Follows o n a c (λ t. HasUpTo t table (Some next) (keys ++ next ∷ []))
-one_walked o m n a b c table after found next keys f g is =
-    next_to o m n a b c _ _ _ f g (λ t up_to is_next. further t table after next keys (subst (IsNextKey t table after) is is_next) up_to)
-
-pub all_walked : (o m n : Face) (a b c : Option (List ReadValue)) (table : ℕ) (after found : Option Key) (keys : List Key)
-    → Follows o m a b (λ t. HasUpTo t table after keys) → Follows m n b c (λ t. IsNextKey t table after found) → found ≡ None
-    → Follows o n a c (λ t. HasPresent t table keys)
-all_walked o m n a b c table after found keys f g is =
-    next_to o m n a b c _ _ _ f g (λ t up_to is_next key present. up_to key present (before t key present (subst (IsNextKey t table after) is is_next) (is_after after key) refl))
-  where
-    before : (t : Tables) (key : Key) → is_present t table key ≡ true → IsNextKey t table after None → (b : Bool) → is_after after key ≡ b → is_after after key ≡ false
-    before t key present last true e = clash (is_present t table key) present (last key e)
-    before t key present last false e = e
-
-pub ruleset walking = (none_walked, one_walked, all_walked)
+has_present : (t : Tables) (table : ℕ) (key : Key) → is_present t table key ≡ true → has_key key (present_keys t table) ≡ true
+has_present t table key present = walk_has (is_present t table) None (present_keys t table) key (present_walk t table) refl present
 
 same_table : (table : ℕ) (key : Key) (p : Place) → (p.table == table) ≡ true → is_place (place_at table key) p ≡ eq_by_cmp key_cmp key p.key
 same_table table key p e = ap (λ o. is_eq (ordering_then o (key_cmp key p.key))) (tie table p.table e)
@@ -119,11 +96,12 @@ left_passed table left i e before keys key less is there held =
     held ∙ ap (λ b. before || b) (sym (left_more (place_at table key) left i e less is ∙ ap (λ b. is_left (place_at table key) (take i left) || b) (other_table table key e.0 there) ∙ or_none (is_left (place_at table key) (take i left))))
 
 -- the table was walked, and the keys of the rows that changes left were added
-pub were_walked : (o n : Face) (a b : Option (List ReadValue)) (left : List (Place × LeftRow)) (table : ℕ) (keys all : List Key)
-    → Follows o n a b (λ t. HasPresent t table keys) → ((key : Key) → has_key key all ≡ (has_key key keys || is_left (place_at table key) left)) → Follows o n a b (AreCandidates true left table all)
-were_walked o n a b left table keys all f more = so o n a b _ _ f (λ t present. record {
-  changed = λ key is. more key ∙ or_right_true (has_key key keys) (is_left (place_at table key) left) is;
-  present = λ _ key is. more key ∙ or_left_true (has_key key keys) (is_left (place_at table key) left) (present key is);
+pub were_walked : (o n : Face) (a b : Option (List ReadValue)) (walk : Bool) (left : List (Place × LeftRow)) (table : ℕ) (walked keys all : List Key)
+    → Follows o n a b (λ t. walked ≡ present_keys t table) → keys ≡ walked → ((key : Key) → has_key key all ≡ (has_key key keys || is_left (place_at table key) left))
+    → Follows o n a b (AreCandidates walk left table all)
+were_walked o n a b walk left table walked keys all f same more = so o n a b _ _ f (λ t is. record {
+  changed = λ key here. more key ∙ or_right_true (has_key key keys) (is_left (place_at table key) left) here;
+  present = λ _ key here. more key ∙ or_left_true (has_key key keys) (is_left (place_at table key) left) (ap (has_key key) (same ∙ is) ∙ has_present t table key here);
 })
 
 pub not_walked : (o n : Face) (a b : Option (List ReadValue)) (left : List (Place × LeftRow)) (table : ℕ) (keys all : List Key) → n ≡ o → b ≡ a
@@ -133,4 +111,4 @@ not_walked o n a b left table keys all same stands more = quiet o n a b _ same s
   present = λ e key is. absurd cc;
 })
 
-pub ruleset candidates = (were_walked, not_walked)
+pub ruleset candidates = (not_walked)

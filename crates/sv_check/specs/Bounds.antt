@@ -9,10 +9,10 @@ use Rattle.sv_app.specs.Tables.{Row}
 use Rattle.sv_app.specs.Typing.{is_numdelta}
 use Rattle.sv_effect.specs.declared.ops.Write.{Write}
 use Rattle.sv_effect.specs.declared.ops.Write.TheVariants.{Delta, Set}
+use Rattle.sv_effect.specs.declared.left.LeftRow.{LeftRow}
 use Rattle.sv_effect.specs.RowsFit.{IsWord}
 use Rattle.sv_effect.specs.RunValues.{column}
 use Rattle.sv_effect.specs.Words.{IsWordVal, IsWordGot}
-use Rattle.sv_check.specs.declared.left.LeftRow.{LeftRow}
 
 abbrev pub HasRoom : ℕ → Got → Type 0
 HasRoom writes (Num n) = (neg_ℤ (pos (2 ^ 126)) ≤ℤ (n -ℤ pos (writes * 2 ^ 63))) × ((n +ℤ pos (writes * 2 ^ 63)) ≤ℤ pos (2 ^ 126))

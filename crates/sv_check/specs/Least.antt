@@ -10,9 +10,10 @@ use Rattle.sv_app.specs.Kinds.{is_grow_only}
 use Rattle.sv_app.specs.Schema.{Rule, Bound, OneOf, Different, Refers, Declaration}
 use Rattle.sv_app.specs.Tables.{Row, Tables}
 use Rattle.sv_app.specs.Valid.{place_at, IsKept, Holds, Valid}
+use Rattle.sv_effect.specs.declared.left.LeftRow.{LeftRow}
 use Rattle.sv_effect.specs.Agrees.{is_present}
-use Rattle.sv_check.specs.declared.left.LeftRow.{LeftRow}
-use Rattle.sv_check.specs.Left.{over, is_left}
+use Rattle.sv_effect.specs.Overlays.{over}
+use Rattle.sv_check.specs.Left.{is_left}
 
 abbrev pub IsLeast : (Key → Type 0) → Option Key → Type 0
 IsLeast P None = (key : Key) → P key → ⊥
@@ -46,9 +47,6 @@ has_key key keys = list_any (eq_by_cmp key_cmp key) keys
 pub record AreCandidates (walked : Bool) (left : List (Place × LeftRow)) (table : ℕ) (keys : List Key) (t : Tables) : Type 0 where
   pub changed : (key : Key) → is_left (place_at table key) left ≡ true → has_key key keys ≡ true
   pub present : walked ≡ true → (key : Key) → is_present t table key ≡ true → has_key key keys ≡ true
-
-abbrev pub HasPresent : Tables → ℕ → List Key → Type 0
-HasPresent t table keys = (key : Key) → is_present t table key ≡ true → has_key key keys ≡ true
 
 -- a rule that doesn't compare rows
 abbrev pub IsOwn : Rule → Type 0

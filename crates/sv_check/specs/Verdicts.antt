@@ -5,13 +5,13 @@ use Rattle.sv_app.specs.declared.places.Place.{Place}
 use Rattle.sv_app.specs.Schema.{Invariant, Declaration}
 use Rattle.sv_app.specs.Tables.{Tables}
 use Rattle.sv_app.specs.Valid.{Valid, IsFirstBroken}
+use Rattle.sv_effect.specs.declared.left.LeftRow.{LeftRow}
 use Rattle.sv_effect.specs.RunChanges.{Effect}
 use Rattle.sv_effect.specs.Effects.{with_effects, Fits, FindsAll}
-use Rattle.sv_check.specs.declared.left.LeftRow.{LeftRow}
+use Rattle.sv_effect.specs.Overlays.{over}
 use Rattle.sv_check.specs.declared.verdicts.Verdict.{Verdict}
 use Rattle.sv_check.specs.declared.verdicts.Verdict.TheVariants.{Keeps, Breaks}
 use Rattle.sv_check.specs.Least.{IsLeast, BrokenAt, IsAfter}
-use Rattle.sv_check.specs.Left.{over}
 use Rattle.sv_check.specs.Tests.{rules_of}
 
 abbrev pub IsVerdict : List Declaration → List Effect → Tables → Verdict → Type 0

@@ -13,11 +13,10 @@ ghost use Rattle.sv_check.specs.Verdicts.{Judges, TableSays, AllSay};
 
 use crate::changes::rows_after;
 use crate::least::least_broken;
-use crate::left::LeftRow;
 use crate::verdicts::Verdict;
 use std::alloc::Global;
 use sv_app::{App, Inv, Place};
-use sv_effect::{Halt, RowEffect, Rows};
+use sv_effect::{Halt, LeftRow, RowEffect, Rows};
 
 /// The first of the table's invariants that is broken after the changes, and the least key at which it is.
 fn first_in<R: Rows>(

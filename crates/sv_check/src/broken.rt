@@ -8,17 +8,17 @@ ghost use Rattle.sv_app.specs.Valid.{number_of, value_of, side_of, key_by, Binds
 ghost use Rattle.sv_effect.specs.Agrees.{is_present};
 ghost use Rattle.sv_effect.specs.Asked.{Asked};
 ghost use Rattle.sv_effect.specs.Follows.{Follows};
+ghost use Rattle.sv_effect.specs.Overlays.{over, left_row};
 ghost use Rattle.sv_effect.specs.Words.{IsWordGot};
 ghost use Rattle.sv_check.specs.Bounds.{AreBounded, LeftBounded};
-ghost use Rattle.sv_check.specs.Left.{over, left_row, is_left};
+ghost use Rattle.sv_check.specs.Left.{is_left};
 ghost use Rattle.sv_check.specs.Least.{Says, has_absent, IsOwn, RowSays, PlaceSays};
 ghost use Rattle.sv_check.specs.Rules.{is_met};
 
-use crate::left::{LeftRow, is_place, left_at, look};
 use crate::rules::{is_listed, is_within};
 use std::alloc::Global;
 use sv_app::{App, Check, Got, Ident, Inv, InvBody, Kind, Place};
-use sv_effect::{Halt, Rows, ask_row, column as column_of};
+use sv_effect::{Halt, LeftRow, Rows, ask_row, column as column_of, is_place, left_at, look};
 use sv_value::{Key, Val};
 
 fn value_of(row: &LeftRow, column: &Ident) -> Got

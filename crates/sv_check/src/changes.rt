@@ -11,15 +11,15 @@ ghost use Rattle.sv_effect.specs.Follows.{Follows};
 ghost use Rattle.sv_effect.specs.RowChange.{turn_of};
 ghost use Rattle.sv_effect.specs.RunChanges.{effect_of};
 ghost use Rattle.sv_effect.specs.Effects.{row_after, with_effect, with_effects};
+ghost use Rattle.sv_effect.specs.Overlays.{over, left_row, left_rows};
 ghost use Rattle.sv_effect.specs.Words.{AreWordGots};
 ghost use Rattle.sv_check.specs.Bounds.{IsBounded, LeftBounded, ChangesBounded};
-ghost use Rattle.sv_check.specs.Left.{over, left_row, left_rows, start_of};
+ghost use Rattle.sv_check.specs.Left.{start_of};
 
-use crate::left::{LeftRow, look};
 use crate::writes::make_writes;
 use std::alloc::Global;
 use sv_app::{Act, App, Got, Place};
-use sv_effect::{Halt, RowEffect, Rows, zeros};
+use sv_effect::{Halt, LeftRow, RowEffect, Rows, look, zeros};
 use sv_value::{List, NoMemory};
 
 /// Whether a row is present after the act.

@@ -6,18 +6,17 @@ ghost use Rattle.std.specs.BTreeMap.{get as first_at};
 ghost use Rattle.std.specs.FinMap.{get};
 ghost use Rattle.sv_effect.specs.Asked.{Asked};
 ghost use Rattle.sv_effect.specs.Follows.{Follows};
+ghost use Rattle.sv_effect.specs.Overlays.{over, left_row, told_row};
 ghost use Rattle.sv_effect.specs.Reads.{seen_of};
 ghost use Rattle.sv_check.specs.declared.clashes.Ordered.{Ordered as OrderedValue};
 ghost use Rattle.sv_check.specs.Clashes.{present_value, pair_of, values_at, in_order, ordered_cmp, with_both, Clashes};
 ghost use Rattle.sv_check.specs.Least.{IsLeast};
-ghost use Rattle.sv_check.specs.Left.{over, left_row, told_row};
 
 use crate::keys::lesser;
-use crate::left::{LeftRow, left_at};
 use std::alloc::Global;
 use std::collections::BTreeMap;
 use sv_app::{Got, Ident, Place};
-use sv_effect::{Halt, Rows, Seen, ask_row, column as column_of};
+use sv_effect::{Halt, LeftRow, Rows, Seen, ask_row, column as column_of, left_at};
 use sv_value::{Key, NoMemory, Text, Val};
 
 /// A value as the key of a map. A number has no text, and a text has the number zero.

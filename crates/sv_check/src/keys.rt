@@ -1,6 +1,6 @@
 //! The keys at which a rule may be broken after changes.
 
-ghost use Rattle.std.specs.Prelude.{◌≡◌, ◌<◌, ◌||◌, ◌++◌, ◌∷◌, [], Some, List, IfOk, IfSome, OnOk};
+ghost use Rattle.std.specs.Prelude.{◌≡◌, ◌<◌, ◌||◌, Some, List, IfOk, IfSome, OnOk};
 ghost use Rattle.sv_value.specs.declared.values.Key.{Key as KeyValue};
 ghost use Rattle.sv_app.specs.Tables.{Tables};
 ghost use Rattle.sv_app.specs.Valid.{place_at};
@@ -8,13 +8,12 @@ ghost use Rattle.sv_effect.specs.Agrees.{IsNextKey};
 ghost use Rattle.sv_effect.specs.Asked.{Asked};
 ghost use Rattle.sv_effect.specs.Follows.{Follows};
 ghost use Rattle.sv_check.specs.Left.{is_left};
-ghost use Rattle.sv_check.specs.Least.{lesser, has_key, HasPresent, AreCandidates};
+ghost use Rattle.sv_check.specs.Least.{lesser, has_key, AreCandidates};
 
-use crate::left::LeftRow;
 use std::alloc::Global;
 use sv_app::Place;
-use sv_effect::{Halt, Rows, ask_after};
-use sv_value::{Key, NoMemory, Val};
+use sv_effect::{Halt, LeftRow, Rows, present_keys};
+use sv_value::{Key, NoMemory};
 
 /// The lesser of two keys, where there are two.
 pub fn lesser(one: Option<Key>, other: Option<Key>) -> Option<Key>
@@ -29,34 +28,6 @@ pub fn lesser(one: Option<Key>, other: Option<Key>) -> Option<Key>
             } else {
                 Some(key)
             }
-        }
-    }
-}
-
-fn add_key(key: &Key, keys: &mut Vec<Key>) -> Result<(), NoMemory>
-    ensures { OnOk result (keys.new.items ≡ keys.old.items ++ key.now ∷ []) }
-{
-    // The check wants to see the type that is inside a key.
-    let _val: Option<Val> = None;
-    keys.push(*key)?;
-    Ok(())
-}
-
-/// The keys of the table's present rows before the changes.
-#[tactic(auto, using(crate::proofs::WalkLaws::walking))]
-fn present_keys<R: Rows>(alloc: Global, table: u16, rows: &mut R) -> Result<Vec<Key>, Halt>
-    ensures followed { IfOk result (λ keys. Follows (R.face rows.old) (R.face rows.new) (R.noted rows.old) (R.noted rows.new) (λ t. HasPresent t table keys.items)) }
-    ensures asked { Asked R.stays R.face rows.old rows.new result }
-{
-    let mut keys = Vec::new(alloc);
-    let mut after: Option<Key> = None;
-    loop {
-        match ask_after(rows, table, &after)? {
-            Some(key) => {
-                add_key(&key, &mut keys)?;
-                after = Some(key);
-            }
-            None => return Ok(keys),
         }
     }
 }
@@ -86,7 +57,8 @@ pub fn candidates<R: Rows>(
     ensures asked { Asked R.stays R.face rows.old rows.new result }
 {
     if walk {
-        let mut keys = present_keys(alloc, table, rows)?;
+        let before = present_keys(alloc, table, rows)?;
+        let mut keys = before.into_vec();
         add_left(left, table, &mut keys)?;
         Ok(keys)
     } else {

@@ -12,10 +12,9 @@ ghost use Rattle.sv_check.specs.Least.{lesser, IsOwn, LeastAmong, LeastBroken, i
 use crate::broken::{has_absent, is_broken};
 use crate::clashes::{least_clash, present_values};
 use crate::keys::{candidates, lesser};
-use crate::left::LeftRow;
 use std::alloc::Global;
 use sv_app::{App, Inv, InvBody, Place};
-use sv_effect::{Halt, Rows};
+use sv_effect::{Halt, LeftRow, Rows};
 use sv_value::Key;
 
 /// The lesser of both, where the rule is broken at the key.

@@ -9,7 +9,6 @@ mod initial;
 mod keys;
 mod laws;
 mod least;
-mod left;
 mod rules;
 mod verdicts;
 mod writes;

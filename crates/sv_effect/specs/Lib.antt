@@ -10,9 +10,11 @@ pub mod Faces
 pub mod Fits
 pub mod Follows
 pub mod Initial
+pub mod Keys
 pub mod Laws
 pub mod Needs
 pub mod Newer
+pub mod Overlays
 pub mod Reads
 pub mod RowChange
 pub mod RowsFit

@@ -4,7 +4,9 @@
 mod asks;
 mod cells;
 mod changes;
+mod keys;
 mod laws;
+mod left;
 mod noted;
 mod ops;
 mod outcomes;
@@ -16,9 +18,11 @@ mod values;
 pub use asks::{ask_after, ask_next, ask_row};
 pub use cells::{Cell, Row};
 pub use changes::apply_row;
+pub use keys::{present_after, present_keys, put_key};
 pub use laws::{
     any_sequence, fitting_kept, greatest_is, newer_wins, one_more, unthreatened_commute,
 };
+pub use left::{LeftRow, copy_values, is_place, left_at, look};
 pub use noted::{Noted, Reads};
 pub use ops::{Need, Op, RowEffect, Write};
 pub use outcomes::{Outcome, Ran};

@@ -20,34 +20,20 @@ use Rattle.sv_app.specs.TxnTyping.{behind}
 use Rattle.sv_app.specs.Units.{loop_variables, unit_of}
 use Rattle.sv_effect.specs.declared.outcomes.Outcome.{Outcome}
 use Rattle.sv_effect.specs.declared.outcomes.Outcome.TheVariants as outcomes
+use Rattle.sv_effect.specs.declared.left.LeftRow.{LeftRow}
+use Rattle.sv_effect.specs.Overlays.{over, left_row, left_rows, FoundFits}
 use Rattle.sv_effect.specs.Run.{Stand, Flow, Goes, Ends, Setting, run_command, with_scope, with_row, with_value, place_of_row, on_present, inserted, updated, removed, begun, closed, left_loop, items_of}
 use Rattle.sv_effect.specs.RunChanges.{key_in}
 use Rattle.sv_effect.specs.RunValues.{Progress, Gives, values_of, truth_of}
-use Rattle.sv_interp.specs.declared.states.OwnRow.{OwnRow}
 use Rattle.sv_interp.specs.declared.states.State.{State}
-use Rattle.sv_interp.specs.Machine.{over, own_row, own_rows, scope_of, evaluated, stand, flow_of}
+use Rattle.sv_interp.specs.Machine.{scope_of, evaluated, stand, flow_of}
 use Rattle.sv_interp.specs.Keeping.{calm, AreIntegers, RowLoopIn, ItemLoopIn, Part, Statements, Statement, Turn, RowTurns, ItemTurns, RowLoop, ItemLoop, Keeps, AreFit, LooksUp}
 use Rattle.sv_trace.specs.Standing.{Frame, RowAt, BlockIn, Holds, Passes, Makes, Turned}
+use Rattle.sv_interp.proofs.LookLaws.{found_fits}
 use Rattle.sv_trace.proofs.BlockLaws.{first_in, rest_in, passes_finish, passes_then}
 use Rattle.sv_trace.proofs.ChangeLaws.{own_rows_fit, makes_remove}
 use Rattle.sv_trace.proofs.InsertLaws.{makes_insert}
-use Rattle.sv_trace.proofs.LoopLaws.{
-  yes_in,
-  no_in,
-  test_holds,
-  makes_yes,
-  makes_no,
-  rows_in,
-  items_in,
-  row_begins,
-  item_begins,
-  row_turn_closes,
-  item_turn_closes,
-  turned_none,
-  turned_more,
-  makes_rows,
-  makes_items,
-}
+use Rattle.sv_trace.proofs.LoopLaws.{yes_in, no_in, test_holds, makes_yes, makes_no, rows_in, items_in, row_begins, item_begins, row_turn_closes, item_turn_closes, turned_none, turned_more, makes_rows, makes_items}
 use Rattle.sv_trace.proofs.StatementLaws.{makes_declare, makes_assign, makes_fetch, makes_reply}
 use Rattle.sv_trace.proofs.UpdateLaws.{makes_update}
 
@@ -149,22 +135,22 @@ keeps_item is_of g unit variable v body outer s x u w end out begins binds more 
       (item_turn_closes f at inside.name inside.list body unit v (calm s) done.mid inside.command unit_is (subst (λ st. Passes f (knowing at inside.name Element) body st done.mid) starts done.passes));
 }
 
-pub keeps_row : (is_of later : List Declaration → Type 0) (g : Setting) (unit r table : ℕ) (k : Key) (body : Block) (outer : Progress) (s x u w : State) (own : List (Place × OwnRow)) (found : Option OwnRow) (row : OwnRow) (end : Option Outcome)
-    → ((schema : List Declaration) → is_of schema → AreFit schema (over own empty) → RowAt schema (record { table = table; key = k }) (own_rows found)) → own ≡ s.own.items → found ≡ Some row
+pub keeps_row : (is_of later : List Declaration → Type 0) (g : Setting) (unit r table : ℕ) (k : Key) (body : Block) (outer : Progress) (s x u w : State) (own : List (Place × LeftRow)) (found : Option LeftRow) (row : LeftRow) (end : Option Outcome)
+    → FoundFits is_of own (record { table = table; key = k }) (left_rows found) → own ≡ s.own.items → found ≡ Some row
     → outer ≡ (stand empty s).scope.progress → ((t : Tables) → stand t x ≡ begun unit (stand t s)) → ((t : Tables) → stand t u ≡ with_scope (stand t x) (with_row r row.values (stand t x).scope))
     → ((schema : List Declaration) → is_of schema → later schema) → Keeps later g (Turn body outer) u end w → Keeps is_of g (RowTurns unit r table body) s end w
 keeps_row is_of later g unit r table k body outer s x u w own found row end fits own_is e out begins binds same more = record {
   keeps = λ f at frame setting is inside holds none.
-      let at_place : RowAt f.schema (record { table = inside.of_table.num; key = k }) (Some (own_row row)) =
-      subst (λ n. RowAt f.schema (record { table = n; key = k }) (Some (own_row row))) inside.same_table (subst (λ o. RowAt f.schema (record { table = table; key = k }) (own_rows o)) e
-      (fits f.schema is (subst (λ l. AreFit f.schema (over l empty)) (sym own_is) (λ p. own_rows_fit f at (calm s) p (get (calm s).tables p) holds refl)))) in
+      let at_place : RowAt f.schema (record { table = inside.of_table.num; key = k }) (Some (left_row row)) =
+      subst (λ n. RowAt f.schema (record { table = n; key = k }) (Some (left_row row))) inside.same_table (subst (λ o. RowAt f.schema (record { table = table; key = k }) (left_rows o)) e
+      (found_fits is_of f.schema own (record { table = table; key = k }) (left_rows found) fits is (subst (λ l. AreFit f.schema (over l empty)) (sym own_is) (λ p. own_rows_fit f at (calm s) p (get (calm s).tables p) holds refl)))) in
       let starts : calm u ≡ with_scope (begun unit (calm s)) (with_row inside.variable.num row.values (begun unit (calm s)).scope) =
       binds empty ∙ ap (λ q. with_scope q (with_row r row.values q.scope)) (begins empty) ∙ ap (λ n. with_scope (begun unit (calm s)) (with_row n row.values (begun unit (calm s)).scope)) inside.same_row in
-      let here = subst (Holds f (knowing at inside.variable (RowOf inside.of_table))) (sym starts) (row_begins f at inside.variable inside.of_table inside.condition body unit k (own_row row) (calm s) inside.command holds at_place) in
+      let here = subst (Holds f (knowing at inside.variable (RowOf inside.of_table))) (sym starts) (row_begins f at inside.variable inside.of_table inside.condition body unit k (left_row row) (calm s) inside.command holds at_place) in
       let done = more.keeps f (knowing at inside.variable (RowOf inside.of_table)) frame setting (same f.schema is) (rows_in f at inside.variable inside.of_table inside.condition body inside.command) here none in
       let unit_is : unit ≡ unit_of (loop_variables f.txn.body) inside.variable.num = inside.same_unit ∙ ap (unit_of (loop_variables f.txn.body)) inside.same_row in
       subst (Turned f at (calm s)) (sym (done.closes ∙ ap (λ o. closed o done.mid) out))
-      (row_turn_closes f at inside.variable inside.of_table inside.condition body unit (own_row row) (calm s) done.mid inside.command unit_is (subst (λ st. Passes f (knowing at inside.variable (RowOf inside.of_table)) body st done.mid) starts done.passes));
+      (row_turn_closes f at inside.variable inside.of_table inside.condition body unit (left_row row) (calm s) done.mid inside.command unit_is (subst (λ st. Passes f (knowing at inside.variable (RowOf inside.of_table)) body st done.mid) starts done.passes));
 }
 
 -- no turn, and one turn more
@@ -267,31 +253,31 @@ keeps_each is_of g x list body unit items s w end u same more = record {
 pub finds_ended : (is_of : List Declaration → Type 0) (p : Place) (step : Option Row → Stand → Flow) (s : State) (e : Outcome) (s' : State) → LooksUp is_of p step s (Some e) s'
 finds_ended is_of p step s e s' = record { finds = λ schema is own none. absurd (let bad : Some e ≡ None = none in cc) }
 
-pub finds : (is_of : List Declaration → Type 0) (p : Place) (step : Option Row → Stand → Flow) (own : List (Place × OwnRow)) (found : Option OwnRow) (s : State) (end : Option Outcome) (s' : State)
-    → ((schema : List Declaration) → is_of schema → AreFit schema (over own empty) → RowAt schema p (own_rows found)) → own ≡ s.own.items
-    → ((t : Tables) → step (own_rows found) (stand t s) ≡ flow_of end (stand t s')) → LooksUp is_of p step s end s'
+pub finds : (is_of : List Declaration → Type 0) (p : Place) (step : Option Row → Stand → Flow) (own : List (Place × LeftRow)) (found : Option LeftRow) (s : State) (end : Option Outcome) (s' : State)
+    → FoundFits is_of own p (left_rows found) → own ≡ s.own.items
+    → ((t : Tables) → step (left_rows found) (stand t s) ≡ flow_of end (stand t s')) → LooksUp is_of p step s end s'
 finds is_of p step own found s end s' fits own_is made = record {
   finds = λ schema is all none. record {
-    row = own_rows found;
-    fits = fits schema is (subst (λ l. AreFit schema (over l empty)) (sym own_is) all);
-    made = goes end (step (own_rows found) (calm s)) (calm s') (made empty) none;
+    row = left_rows found;
+    fits = found_fits is_of schema own p (left_rows found) fits is (subst (λ l. AreFit schema (over l empty)) (sym own_is) all);
+    made = goes end (step (left_rows found) (calm s)) (calm s') (made empty) none;
   };
 }
 
 own_fits : (f : Frame) (at : Scope) (s u : State) → Holds f at (calm s) → calm u ≡ with_scope (calm s) (scope_of u.scope) → AreFit f.schema (calm u).tables
 own_fits f at s u holds after = subst (λ st. AreFit f.schema st.tables) (sym after) (λ p. own_rows_fit f at (calm s) p (get (calm s).tables p) holds refl)
 
-pub keeps_fetch : (is_of : List Declaration → Type 0) (g : Setting) (r table : Ident) (key : List Term) (p : Place) (own : List (Place × OwnRow)) (values : Option (List Val)) (vs : List Val) (found : Option OwnRow) (row : OwnRow) (s u w : State)
+pub keeps_fetch : (is_of : List Declaration → Type 0) (g : Setting) (r table : Ident) (key : List Term) (p : Place) (own : List (Place × LeftRow)) (values : Option (List Val)) (vs : List Val) (found : Option LeftRow) (row : LeftRow) (s u w : State)
     → values_of key (scope_of s.scope) ≡ evaluated values u.scope → values ≡ Some vs → calm u ≡ with_scope (calm s) (scope_of u.scope) → p ≡ place_of_row table vs
-    → ((schema : List Declaration) → is_of schema → AreFit schema (over own empty) → RowAt schema p (own_rows found)) → own ≡ u.own.items → found ≡ Some row
+    → FoundFits is_of own p (left_rows found) → own ≡ u.own.items → found ≡ Some row
     → ((t : Tables) → stand t w ≡ with_scope (stand t u) (with_row r.num row.values (stand t u).scope)) → Keeps is_of g (Statement (Fetch r table key)) s None w
 keeps_fetch is_of g r table key p own values vs found row s u w e z after place fits own_is found_is binds = record {
   keeps = λ f at frame setting is inside holds none.
-      let fit : RowAt f.schema (place_of_row table vs) (Some (own_row row)) =
-      subst (λ q. RowAt f.schema q (Some (own_row row))) place (subst (λ o. RowAt f.schema p (own_rows o)) found_is
-      (fits f.schema is (subst (λ l. AreFit f.schema (over l empty)) (sym own_is) (own_fits f at s u holds after)))) in
+      let fit : RowAt f.schema (place_of_row table vs) (Some (left_row row)) =
+      subst (λ q. RowAt f.schema q (Some (left_row row))) place (subst (λ o. RowAt f.schema p (left_rows o)) found_is
+      (found_fits is_of f.schema own p (left_rows found) fits is (subst (λ l. AreFit f.schema (over l empty)) (sym own_is) (own_fits f at s u holds after)))) in
       subst (Makes f at (Fetch r table key) (calm s)) (sym (binds empty ∙ ap (λ q. with_scope q (with_row r.num row.values q.scope)) after))
-      (makes_fetch f at r table key (calm s) vs (scope_of u.scope) (own_row row) inside holds (e ∙ ap (λ o. evaluated o u.scope) z) fit);
+      (makes_fetch f at r table key (calm s) vs (scope_of u.scope) (left_row row) inside holds (e ∙ ap (λ o. evaluated o u.scope) z) fit);
 }
 
 pub keeps_insert : (is_of : List Declaration → Type 0) (g : Setting) (table : Ident) (terms : List Term) (d : Declaration) (p : Place) (values : Option (List Val)) (vs : List Val) (s u w : State) (end : Option Outcome)
@@ -330,17 +316,17 @@ keeps_update is_of g table key sets d p values vs s u w end e z after declared p
       (ap (λ q. updated d q sets (with_scope (calm s) (scope_of u.scope)) row.there) (sym place) ∙ ap (λ st. updated d p sets st row.there) (sym after) ∙ row.made);
 }
 
-pub keeps_remove : (is_of : List Declaration → Type 0) (g : Setting) (table : Ident) (key : List Term) (p : Place) (own : List (Place × OwnRow)) (values : Option (List Val)) (vs : List Val) (found : Option OwnRow) (row : OwnRow) (s u w : State) (end : Option Outcome)
+pub keeps_remove : (is_of : List Declaration → Type 0) (g : Setting) (table : Ident) (key : List Term) (p : Place) (own : List (Place × LeftRow)) (values : Option (List Val)) (vs : List Val) (found : Option LeftRow) (row : LeftRow) (s u w : State) (end : Option Outcome)
     → values_of key (scope_of s.scope) ≡ evaluated values u.scope → values ≡ Some vs → calm u ≡ with_scope (calm s) (scope_of u.scope) → p ≡ place_of_row table vs
-    → ((schema : List Declaration) → is_of schema → AreFit schema (over own empty) → RowAt schema p (own_rows found)) → own ≡ u.own.items → found ≡ Some row
-    → ((t : Tables) → removed p (stand t u) (own_row row) ≡ flow_of end (stand t w)) → Keeps is_of g (Statement (Remove table key)) s end w
+    → FoundFits is_of own p (left_rows found) → own ≡ u.own.items → found ≡ Some row
+    → ((t : Tables) → removed p (stand t u) (left_row row) ≡ flow_of end (stand t w)) → Keeps is_of g (Statement (Remove table key)) s end w
 keeps_remove is_of g table key p own values vs found row s u w end e z after place fits own_is found_is made = record {
   keeps = λ f at frame setting is inside holds none.
-      let fit : RowAt f.schema (place_of_row table vs) (Some (own_row row)) =
-      subst (λ q. RowAt f.schema q (Some (own_row row))) place (subst (λ o. RowAt f.schema p (own_rows o)) found_is
-      (fits f.schema is (subst (λ l. AreFit f.schema (over l empty)) (sym own_is) (own_fits f at s u holds after)))) in
-      makes_remove f at table key (calm s) vs (scope_of u.scope) (own_row row) (calm w) inside holds (e ∙ ap (λ o. evaluated o u.scope) z) fit
-      (ap (λ q. removed q (with_scope (calm s) (scope_of u.scope)) (own_row row)) (sym place) ∙ ap (λ st. removed p st (own_row row)) (sym after) ∙ goes end (removed p (calm u) (own_row row)) (calm w) (made empty) none);
+      let fit : RowAt f.schema (place_of_row table vs) (Some (left_row row)) =
+      subst (λ q. RowAt f.schema q (Some (left_row row))) place (subst (λ o. RowAt f.schema p (left_rows o)) found_is
+      (found_fits is_of f.schema own p (left_rows found) fits is (subst (λ l. AreFit f.schema (over l empty)) (sym own_is) (own_fits f at s u holds after)))) in
+      makes_remove f at table key (calm s) vs (scope_of u.scope) (left_row row) (calm w) inside holds (e ∙ ap (λ o. evaluated o u.scope) z) fit
+      (ap (λ q. removed q (with_scope (calm s) (scope_of u.scope)) (left_row row)) (sym place) ∙ ap (λ st. removed p st (left_row row)) (sym after) ∙ goes end (removed p (calm u) (left_row row)) (calm w) (made empty) none);
 }
 
 pub ruleset steps = (keeps_ended, finds_ended, finds)

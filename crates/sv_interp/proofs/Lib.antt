@@ -1,6 +1,4 @@
 pub mod KeepLaws
-pub mod KeyLaws
-pub mod LaidLaws
 pub mod LimitLaws
 pub mod LookLaws
 pub mod LoopLaws
@@ -8,6 +6,5 @@ pub mod MeetLaws
 pub mod NeedLaws
 pub mod RunLaws
 pub mod ResultLaws
-pub mod SpotLaws
 pub mod TxnLaws
 pub mod WriteLaws

@@ -10,15 +10,16 @@ use Rattle.sv_app.specs.Trees.{Test, Command, ForRows, Abort, Block, Finish, The
 use Rattle.sv_effect.specs.declared.outcomes.Outcome.{Outcome}
 use Rattle.sv_app.specs.Units.{unit_of}
 use Rattle.sv_effect.specs.declared.outcomes.Outcome.TheVariants as outcomes
+use Rattle.sv_effect.specs.declared.left.LeftRow.{LeftRow}
 use Rattle.sv_effect.specs.Faces.{Face}
 use Rattle.sv_effect.specs.Follows.{Follows}
+use Rattle.sv_effect.specs.Overlays.{over, left_rows}
 use Rattle.sv_effect.specs.Reads.{ReadValue}
 use Rattle.sv_effect.specs.Run.{Stand, Flow, Goes, then_do, turns, closed, left_loop, run_command, run_block, Setting, with_scope, with_row, begun, instance, if_present, row_turn, meeting, only, present_keys, on_keys}
 use Rattle.sv_effect.specs.RunValues.{Progress, Scope}
 use Rattle.sv_effect.proofs.FollowLaws as follow
-use Rattle.sv_interp.specs.declared.states.OwnRow.{OwnRow}
 use Rattle.sv_interp.specs.declared.states.State.{State}
-use Rattle.sv_interp.specs.Machine.{over, own_rows, progress_of, scope_of, stand, flow_of, Runs, Reaches, closing, looping}
+use Rattle.sv_interp.specs.Machine.{progress_of, scope_of, stand, flow_of, Runs, Reaches, closing, looping}
 
 -- a step that asks nothing
 pub quiet : (f : Stand → Flow) (o n : Face) (a b : Option (List ReadValue)) (s : State) (end : Option Outcome) (s' : State)
@@ -26,9 +27,9 @@ pub quiet : (f : Stand → Flow) (o n : Face) (a b : Option (List ReadValue)) (s
 quiet f o n a b s end s' same stands h = record { ran = follow.quiet o n a b _ same stands h }
 
 -- a step that looks at one row
-pub looked : (f : Stand → Flow) (o n : Face) (a b : Option (List ReadValue)) (s : State) (end : Option Outcome) (s' : State) (own : List (Place × OwnRow)) (p : Place) (found : Option OwnRow)
-    → Follows o n a b (λ t. get (over own t) p ≡ own_rows found)
-    → ((t : Tables) → get (over own t) p ≡ own_rows found → f (stand t s) ≡ flow_of end (stand t s')) → Runs f o n a b s end s'
+pub looked : (f : Stand → Flow) (o n : Face) (a b : Option (List ReadValue)) (s : State) (end : Option Outcome) (s' : State) (own : List (Place × LeftRow)) (p : Place) (found : Option LeftRow)
+    → Follows o n a b (λ t. get (over own t) p ≡ left_rows found)
+    → ((t : Tables) → get (over own t) p ≡ left_rows found → f (stand t s) ≡ flow_of end (stand t s')) → Runs f o n a b s end s'
 looked f o n a b s end s' own p found g h = record { ran = follow.so o n a b _ _ g h }
 
 -- a step that first changes the state, and asks nothing till then
@@ -37,8 +38,8 @@ pub entering : (f h : Stand → Flow) (o n : Face) (a b : Option (List ReadValue
 entering f h o n a b s u end s' e g = record { ran = follow.so o n a b _ _ g.ran (λ t r. e t ∙ r) }
 
 -- a step that looks at one row, and then goes on
-pub looked_entering : (f h : Stand → Flow) (o m n : Face) (a b c : Option (List ReadValue)) (s u : State) (end : Option Outcome) (s' : State) (own : List (Place × OwnRow)) (p : Place) (found : Option OwnRow)
-    → Follows o m a b (λ t. get (over own t) p ≡ own_rows found) → ((t : Tables) → get (over own t) p ≡ own_rows found → f (stand t s) ≡ h (stand t u))
+pub looked_entering : (f h : Stand → Flow) (o m n : Face) (a b c : Option (List ReadValue)) (s u : State) (end : Option Outcome) (s' : State) (own : List (Place × LeftRow)) (p : Place) (found : Option LeftRow)
+    → Follows o m a b (λ t. get (over own t) p ≡ left_rows found) → ((t : Tables) → get (over own t) p ≡ left_rows found → f (stand t s) ≡ h (stand t u))
     → Runs h m n b c u end s' → Runs f o n a c s end s'
 looked_entering f h o m n a b c s u end s' own p found g e r = record { ran = follow.next_to o m n a b c _ _ _ g r.ran (λ t x y. e t x ∙ y) }
 
@@ -97,27 +98,27 @@ same_command g d c o n a b s end s' e r = subst (λ x. Runs (run_command g x) o 
 pub ruleset commands = (quiet_command, abort_ends, same_command)
 
 -- the turn of a row that isn't there, or isn't present
-pub row_absent : (unit r table : ℕ) (k : Key) (body : Stand → Flow) (o n : Face) (a b : Option (List ReadValue)) (s : State) (p : Place) (found : Option OwnRow)
-    → Follows o n a b (λ t. get (over s.own.items t) p ≡ own_rows found) → p ≡ record { table = table; key = k } → found ≡ None → Runs (row_turn unit r table body k) o n a b s None s
+pub row_absent : (unit r table : ℕ) (k : Key) (body : Stand → Flow) (o n : Face) (a b : Option (List ReadValue)) (s : State) (p : Place) (found : Option LeftRow)
+    → Follows o n a b (λ t. get (over s.own.items t) p ≡ left_rows found) → p ≡ record { table = table; key = k } → found ≡ None → Runs (row_turn unit r table body k) o n a b s None s
 row_absent unit r table k body o n a b s p found f e z =
-    record { ran = follow.so o n a b _ _ f (λ t h. ap (λ q. if_present q (λ row. instance unit (λ y. body (with_scope y (with_row r row.values y.scope)))) (stand t s)) (ap (get (over s.own.items t)) (sym e) ∙ h ∙ ap own_rows z)) }
+    record { ran = follow.so o n a b _ _ f (λ t h. ap (λ q. if_present q (λ row. instance unit (λ y. body (with_scope y (with_row r row.values y.scope)))) (stand t s)) (ap (get (over s.own.items t)) (sym e) ∙ h ∙ ap left_rows z)) }
 
-pub row_gone : (unit r table : ℕ) (k : Key) (body : Stand → Flow) (o n : Face) (a b : Option (List ReadValue)) (s : State) (p : Place) (found : Option OwnRow) (row : OwnRow)
-    → Follows o n a b (λ t. get (over s.own.items t) p ≡ own_rows found) → p ≡ record { table = table; key = k } → found ≡ Some row → row.present ≡ false → Runs (row_turn unit r table body k) o n a b s None s
+pub row_gone : (unit r table : ℕ) (k : Key) (body : Stand → Flow) (o n : Face) (a b : Option (List ReadValue)) (s : State) (p : Place) (found : Option LeftRow) (row : LeftRow)
+    → Follows o n a b (λ t. get (over s.own.items t) p ≡ left_rows found) → p ≡ record { table = table; key = k } → found ≡ Some row → row.present ≡ false → Runs (row_turn unit r table body k) o n a b s None s
 row_gone unit r table k body o n a b s p found row f e z w =
     record {
-      ran = follow.so o n a b _ _ f (λ t h. ap (λ q. if_present q (λ row. instance unit (λ y. body (with_scope y (with_row r row.values y.scope)))) (stand t s)) (ap (get (over s.own.items t)) (sym e) ∙ h ∙ ap own_rows z)
+      ran = follow.so o n a b _ _ f (λ t h. ap (λ q. if_present q (λ row. instance unit (λ y. body (with_scope y (with_row r row.values y.scope)))) (stand t s)) (ap (get (over s.own.items t)) (sym e) ∙ h ∙ ap left_rows z)
           ∙ ap (λ c. cond c (instance unit (λ y. body (with_scope y (with_row r row.values y.scope))) (stand t s)) (Goes (stand t s))) w);
     }
 
 -- the turn of a present row
-pub row_runs : (unit r table : ℕ) (k : Key) (body : Stand → Flow) (o m n : Face) (a b c : Option (List ReadValue)) (s x u : State) (end : Option Outcome) (s' : State) (own : List (Place × OwnRow)) (found : Option OwnRow) (row : OwnRow) (outer : Progress)
-    → Follows o m a b (λ t. get (over own t) (record { table = table; key = k }) ≡ own_rows found) → own ≡ s.own.items → found ≡ Some row → row.present ≡ true
+pub row_runs : (unit r table : ℕ) (k : Key) (body : Stand → Flow) (o m n : Face) (a b c : Option (List ReadValue)) (s x u : State) (end : Option Outcome) (s' : State) (own : List (Place × LeftRow)) (found : Option LeftRow) (row : LeftRow) (outer : Progress)
+    → Follows o m a b (λ t. get (over own t) (record { table = table; key = k }) ≡ left_rows found) → own ≡ s.own.items → found ≡ Some row → row.present ≡ true
     → outer ≡ progress_of s.scope.progress → ((t : Tables) → stand t x ≡ begun unit (stand t s)) → ((t : Tables) → stand t u ≡ with_scope (stand t x) (with_row r row.values (stand t x).scope))
     → Runs (closing outer body) m n b c u end s' → Runs (row_turn unit r table body k) o n a c s end s'
 row_runs unit r table k body o m n a b c s x u end s' own found row outer f e z w out begins binds g =
     record {
-      ran = follow.next_to o m n a b c _ _ _ f g.ran (λ t h y. ap (λ q. if_present q (λ row. instance unit (λ y. body (with_scope y (with_row r row.values y.scope)))) (stand t s)) (ap (λ l. get (over l t) (record { table = table; key = k })) (sym e) ∙ h ∙ ap own_rows z)
+      ran = follow.next_to o m n a b c _ _ _ f g.ran (λ t h y. ap (λ q. if_present q (λ row. instance unit (λ y. body (with_scope y (with_row r row.values y.scope)))) (stand t s)) (ap (λ l. get (over l t) (record { table = table; key = k })) (sym e) ∙ h ∙ ap left_rows z)
           ∙ ap (λ c. cond c (instance unit (λ y. body (with_scope y (with_row r row.values y.scope))) (stand t s)) (Goes (stand t s))) w
           ∙ ap (λ q. then_do (body (with_scope q (with_row r row.values q.scope))) (λ z. Goes (closed (stand t s).scope.progress z))) (sym (begins t))
           ∙ ap (λ q. then_do (body q) (λ z. Goes (closed (stand t s).scope.progress z))) (sym (binds t))
@@ -136,7 +137,7 @@ for_ends g r table test body o m a b s scope found f e z =
           (ap (λ q. only (meeting r.num table.num test (over s.own.items t) (present_keys (over s.own.items t) table.num) q)) (sym e) ∙ h ∙ z));
     }
 
-pub for_runs : (g : Setting) (r table : Ident) (test : Option Test) (body : Block) (o m n : Face) (a b c : Option (List ReadValue)) (s : State) (own : List (Place × OwnRow)) (scope : Scope) (found : Option (List Key)) (ks ls : List Key) (u : ℕ) (end : Option Outcome) (s' : State)
+pub for_runs : (g : Setting) (r table : Ident) (test : Option Test) (body : Block) (o m n : Face) (a b c : Option (List ReadValue)) (s : State) (own : List (Place × LeftRow)) (scope : Scope) (found : Option (List Key)) (ks ls : List Key) (u : ℕ) (end : Option Outcome) (s' : State)
     → Follows o m a b (λ t. only (meeting r.num table.num test (over own t) (present_keys (over own t) table.num) scope) ≡ found) → own ≡ s.own.items → scope ≡ scope_of s.scope → found ≡ Some ks → ls ≡ ks
     → u ≡ unit_of g.loops r.num → Runs (looping ls (row_turn u r.num table.num (run_block g body)) body) m n b c s end s' → Runs (run_command g (ForRows r table test body)) o n a c s end s'
 for_runs g r table test body o m n a b c s own scope found ks ls u end s' f w e z i v l =

@@ -1,17 +1,16 @@
 -- What the interpreter holds, as the meaning of a run speaks of it.
-use Rattle.std.specs.Prelude.{◌≡◌, List, [], ◌∷◌, Option, Some, None, map, if◌then◌else◌}
-use Rattle.std.specs.FinMap.{insert}
+use Rattle.std.specs.Prelude.{◌≡◌, List, [], ◌∷◌, Option, Some, None, map}
 use Rattle.std.specs.Borrow.{Bor}
-use Rattle.sv_app.specs.declared.places.Place.{Place}
 use Rattle.sv_app.specs.declared.schemas.Table.{Table}
 use Rattle.sv_app.specs.Schema.{Declaration, declaration_of, schema_of}
-use Rattle.sv_app.specs.Tables.{Row, Tables}
+use Rattle.sv_app.specs.Tables.{Tables}
 use Rattle.sv_app.specs.declared.txns.Stmt.{Stmt}
 use Rattle.sv_app.specs.Trees.{Block, Finish, Then, command_of, block_of}
 use Rattle.sv_effect.specs.declared.outcomes.Outcome.{Outcome}
 use Rattle.sv_effect.specs.Faces.{Face}
 use Rattle.sv_effect.specs.Follows.{Follows}
-use Rattle.sv_effect.specs.Reads.{SeenValue, ReadValue}
+use Rattle.sv_effect.specs.Overlays.{over}
+use Rattle.sv_effect.specs.Reads.{ReadValue}
 use Rattle.sv_effect.specs.Run as run
 use Rattle.sv_effect.specs.Run.{Stand, Flow, Goes, Ends, then_do, turns, closed, left_loop}
 use Rattle.sv_effect.specs.RunChanges.{effect_of}
@@ -19,7 +18,6 @@ use Rattle.sv_effect.specs.RunValues as values
 use Rattle.sv_effect.specs.RunValues.{Evaluated, Leaves, Gives}
 use Rattle.sv_interp.specs.declared.scopes.Progress.{Progress}
 use Rattle.sv_interp.specs.declared.scopes.Scope.{Scope}
-use Rattle.sv_interp.specs.declared.states.OwnRow.{OwnRow}
 use Rattle.sv_interp.specs.declared.settings.Setting.{Setting}
 use Rattle.sv_interp.specs.declared.states.State.{State}
 
@@ -46,32 +44,7 @@ abbrev pub declared : Option (Bor Table) → Option Declaration
 declared None = None
 declared (Some table) = Some (declaration_of table.now)
 
--- the rows that the run wrote itself, the latest first, over the tables
-abbrev pub own_row : OwnRow → Row
-own_row row = record { values = row.values; present = row.present }
-
-abbrev pub over : List (Place × OwnRow) → Tables → Tables
-over [] t = t
-over (e ∷ es) t = insert (over es t) e.0 (own_row e.1)
-
-abbrev pub own_rows : Option OwnRow → Option Row
-own_rows None = None
-own_rows (Some row) = Some (own_row row)
-
--- a row that the run wrote hides the one behind it
-abbrev pub hides : Option Row → Option Row → Option Row
-hides None behind = behind
-hides (Some row) behind = Some row
-
-abbrev pub lent : Option (Bor OwnRow) → Option Row
-lent None = None
-lent (Some row) = Some (own_row row.now)
-
--- the row that an answer tells of
-abbrev pub told_row : SeenValue → Option Row
-told_row seen = if seen.kept then Some (record { values = seen.values; present = seen.present }) else None
-
--- where a run stands, over given tables
+-- where a run stands: the rows that it wrote itself, the latest first, over given tables
 abbrev pub stand : Tables → State → Stand
 stand t s = record { scope = scope_of s.scope; tables = over s.own.items t; effects = map effect_of s.effects; replies = s.replies; instances = s.instances }
 

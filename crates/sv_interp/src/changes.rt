@@ -4,17 +4,17 @@ ghost use Rattle.sv_app.specs.Tables.{Tables};
 ghost use Rattle.sv_app.specs.Trees.{sets_of};
 ghost use Rattle.sv_effect.specs.Run.{changed, row_with, updated, inserted, removed};
 ghost use Rattle.sv_effect.specs.RunChanges.{kept_values, with_writes, stands};
-ghost use Rattle.sv_interp.specs.Machine.{own_row, own_rows, stand, flow_of};
+ghost use Rattle.sv_effect.specs.Overlays.{left_row, left_rows};
+ghost use Rattle.sv_interp.specs.Machine.{stand, flow_of};
 
 use crate::inserts::{in_order, inserts};
-use crate::looks::copy_values;
-use crate::states::{OwnRow, State};
+use crate::states::State;
 use crate::writes::{make_writes, sets_made};
 use arrayvec::ArrayVec;
 use std::alloc::Global;
 use sv_app::limits::MOST_EFFECTS;
 use sv_app::{Act, Expr, Got, Ident, Place, Table};
-use sv_effect::{Outcome, RowEffect, Write, zeros};
+use sv_effect::{LeftRow, Outcome, RowEffect, Write, copy_values, zeros};
 use sv_value::{List, NoMemory, Val};
 
 /// The writes, as a change carries them.
@@ -35,10 +35,10 @@ fn change(
     place: &Place,
     act: Act,
     writes: &[(u16, Write)],
-    row: OwnRow,
+    row: LeftRow,
 ) -> Result<Option<Outcome>, NoMemory>
     requires { length writes.now ≤ 16 }
-    ensures { IfOk result (λ end. (t : Tables) → changed (record { place = place.now; act = act; writes = writes.now; instance = state.old.scope.progress.number }) (own_row row) (stand t state.old) ≡ flow_of end (stand t state.new)) }
+    ensures { IfOk result (λ end. (t : Tables) → changed (record { place = place.now; act = act; writes = writes.now; instance = state.old.scope.progress.number }) (left_row row) (stand t state.old) ≡ flow_of end (stand t state.new)) }
 {
     if state.effects.len() >= MOST_EFFECTS {
         return Ok(Some(Outcome::TooLarge));
@@ -70,11 +70,11 @@ pub fn update_row(
     table: &Table,
     place: &Place,
     sets: &[(Ident, Expr)],
-    row: OwnRow,
+    row: LeftRow,
     state: &mut State,
 ) -> Result<Option<Outcome>, NoMemory>
     requires { length (declaration_of table.now).columns ≤ 16 }
-    ensures { IfOk result (λ end. (t : Tables) → updated (declaration_of table.now) place.now (sets_of sets.now) (stand t state.old) (own_row row) ≡ flow_of end (stand t state.new)) }
+    ensures { IfOk result (λ end. (t : Tables) → updated (declaration_of table.now) place.now (sets_of sets.now) (stand t state.old) (left_row row) ≡ flow_of end (stand t state.new)) }
 {
     state.start_update(alloc, copy_values(alloc, row.values.items())?);
     let Some(made) = sets_made(alloc, &table.columns, sets, &mut state.scope)? else {
@@ -82,7 +82,7 @@ pub fn update_row(
     };
     let writes = in_order(alloc, table, 0, &table.columns, made.items())?;
     let values = with_writes(row.values, writes.items())?;
-    let left = OwnRow {
+    let left = LeftRow {
         values,
         present: true,
     };
@@ -95,9 +95,9 @@ fn kept_values(
     alloc: Global,
     table: &Table,
     place: &Place,
-    row: Option<OwnRow>,
+    row: Option<LeftRow>,
 ) -> Result<List<Got>, NoMemory>
-    ensures { IfOk result (λ kept. kept ≡ kept_values (declaration_of table.now) place.now.key (own_rows row)) }
+    ensures { IfOk result (λ kept. kept ≡ kept_values (declaration_of table.now) place.now.key (left_rows row)) }
 {
     match row {
         Some(row) => Ok(row.values),
@@ -105,8 +105,8 @@ fn kept_values(
     }
 }
 
-fn stands(row: &Option<OwnRow>) -> bool
-    ensures { result ≡ stands (own_rows row.now) }
+fn stands(row: &Option<LeftRow>) -> bool
+    ensures { result ≡ stands (left_rows row.now) }
 {
     match row {
         Some(row) => row.present,
@@ -120,11 +120,11 @@ pub fn insert_row(
     table: &Table,
     place: &Place,
     vals: &[Val],
-    row: Option<OwnRow>,
+    row: Option<LeftRow>,
     state: &mut State,
 ) -> Result<Option<Outcome>, NoMemory>
     requires { length (declaration_of table.now).columns ≤ 16 }
-    ensures { IfOk result (λ end. (t : Tables) → inserted (declaration_of table.now) place.now vals.now (own_rows row) (stand t state.old) ≡ flow_of end (stand t state.new)) }
+    ensures { IfOk result (λ end. (t : Tables) → inserted (declaration_of table.now) place.now vals.now (left_rows row) (stand t state.old) ≡ flow_of end (stand t state.new)) }
 {
     if stands(&row) {
         return Ok(Some(Outcome::Exists));
@@ -143,7 +143,7 @@ pub fn insert_row(
         return Ok(Some(Outcome::Range));
     };
     let values = with_writes(kept, writes.items())?;
-    let left = OwnRow {
+    let left = LeftRow {
         values,
         present: true,
     };
@@ -153,12 +153,12 @@ pub fn insert_row(
 /// Removes a row: it is kept, and no longer present.
 pub fn remove_row(
     place: &Place,
-    row: OwnRow,
+    row: LeftRow,
     state: &mut State,
 ) -> Result<Option<Outcome>, NoMemory>
-    ensures { IfOk result (λ end. (t : Tables) → removed place.now (stand t state.old) (own_row row) ≡ flow_of end (stand t state.new)) }
+    ensures { IfOk result (λ end. (t : Tables) → removed place.now (stand t state.old) (left_row row) ≡ flow_of end (stand t state.new)) }
 {
-    let left = OwnRow {
+    let left = LeftRow {
         values: row.values,
         present: false,
     };

@@ -1,4 +1,4 @@
-ghost use Rattle.std.specs.Prelude.{◌≡◌, ◌≤◌, ◌+◌, ◌==◌, ◌++◌, ◌∷◌, [], length, OnOk, IfOk, IfSome, map, drop, if◌then◌else◌};
+ghost use Rattle.std.specs.Prelude.{◌≡◌, ◌≤◌, ◌+◌, ◌==◌, [], length, IfOk, IfSome, map, drop, if◌then◌else◌};
 ghost use Rattle.sv_value.specs.declared.values.Key.{Key as KeyValue};
 ghost use Rattle.sv_app.specs.Schema.{declaration_of};
 ghost use Rattle.sv_app.specs.Slots.{item};
@@ -221,13 +221,4 @@ pub fn inserts(
             Ok(Some(prepend((number, write), writes)?))
         }
     }
-}
-
-/// Appends a key.
-pub fn put_key(keys: &mut List<Key>, key: &Key) -> Result<(), NoMemory>
-    ensures { OnOk result (keys.new ≡ keys.old ++ key.now ∷ []) }
-{
-    let first: Val = key.first;
-    let second: Option<Val> = key.second;
-    keys.push(Key { first, second })
 }

@@ -4,43 +4,21 @@ ghost use Rattle.std.specs.Option.{option_map};
 ghost use Rattle.sv_app.specs.Trees.{test_of};
 ghost use Rattle.sv_effect.specs.Asked.{Asked};
 ghost use Rattle.sv_effect.specs.Follows.{Follows};
+ghost use Rattle.sv_effect.specs.Overlays.{over, left_rows};
 ghost use Rattle.sv_effect.specs.Run.{with_row, values_at, kept_if, meeting_test, meeting, only, present_keys};
 ghost use Rattle.sv_effect.specs.RunValues.{truth_of};
-ghost use Rattle.sv_interp.specs.Machine.{over, own_rows, scope_of, evaluated};
+ghost use Rattle.sv_interp.specs.Machine.{scope_of, evaluated};
 
-use crate::inserts::put_key;
-use crate::looks::look;
-use crate::overlays::lay_all;
 use crate::scopes::Scope;
 use crate::slots::put_row;
-use crate::states::OwnRow;
 use crate::values::truth;
-use crate::walks::walk;
 use std::alloc::Global;
 use sv_app::{Cond, Got, Place};
-use sv_effect::{Halt, Rows};
+use sv_effect::{Halt, LeftRow, Rows, look, present_after, put_key};
 use sv_value::{Key, List, NoMemory};
 
-/// The keys of the present rows of a table, in order.
-#[tactic(auto, using(crate::proofs::MeetLaws::presence))]
-fn present<R: Rows>(
-    alloc: Global,
-    own: &[(Place, OwnRow)],
-    table: u16,
-    rows: &mut R,
-) -> Result<List<Key>, Halt>
-    ensures followed { IfOk result (λ keys. Follows (R.face rows.old) (R.face rows.new) (R.noted rows.old) (R.noted rows.new) (λ t. keys ≡ present_keys (over own.now t) table)) }
-    ensures asked { Asked R.stays R.face rows.old rows.new result }
-{
-    let mut keys = List::new(alloc);
-    walk(&mut keys, rows, table)?;
-    let mut left = keys.into_vec();
-    lay_all(own, table, &mut left)?;
-    Ok(List::from_vec(left))
-}
-
-fn values_of(alloc: Global, found: Option<OwnRow>) -> List<Got>
-    ensures { result ≡ values_at (own_rows found) }
+fn values_of(alloc: Global, found: Option<LeftRow>) -> List<Got>
+    ensures { result ≡ values_at (left_rows found) }
 {
     match found {
         Some(row) => row.values,
@@ -52,7 +30,7 @@ fn values_of(alloc: Global, found: Option<OwnRow>) -> List<Got>
 #[tactic(auto, using(crate::proofs::MeetLaws::row_meets))]
 fn meets<R: Rows>(
     alloc: Global,
-    own: &[(Place, OwnRow)],
+    own: &[(Place, LeftRow)],
     row: u16,
     place: &Place,
     test: &Cond,
@@ -84,7 +62,7 @@ fn put_if(holds: bool, key: &Key, keys: &mut List<Key>) -> Result<(), NoMemory>
 #[tactic(auto, using(crate::proofs::MeetLaws::rows_meet))]
 fn meet<R: Rows>(
     alloc: Global,
-    own: &[(Place, OwnRow)],
+    own: &[(Place, LeftRow)],
     row: u16,
     table: u16,
     test: &Cond,
@@ -114,7 +92,7 @@ pub fn met_keys<R: Rows>(
     row: u16,
     table: u16,
     cond: &Option<Cond>,
-    own: &[(Place, OwnRow)],
+    own: &[(Place, LeftRow)],
     scope: Scope,
     rows: &mut R,
 ) -> Result<Option<List<Key>>, Halt>
@@ -122,7 +100,7 @@ pub fn met_keys<R: Rows>(
         (λ t. only (meeting row table (option_map test_of cond.now) (over own.now t) (present_keys (over own.now t) table) (scope_of scope)) ≡ keys)) }
     ensures asked { Asked R.stays R.face rows.old rows.new result }
 {
-    let keys = present(alloc, own, table, rows)?;
+    let keys = present_after(alloc, own, table, rows)?;
     match cond {
         None => Ok(Some(keys)),
         Some(test) => {

@@ -4,10 +4,8 @@
 mod changes;
 mod inserts;
 mod keys;
-mod looks;
 mod loops;
 mod needs;
-mod overlays;
 mod runs;
 mod scopes;
 mod settings;
@@ -16,7 +14,6 @@ mod statements;
 mod states;
 mod txns;
 mod values;
-mod walks;
 mod writes;
 
 pub use sv_effect::{Outcome, Ran};

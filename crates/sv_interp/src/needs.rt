@@ -11,10 +11,9 @@ ghost use Rattle.sv_effect.specs.TablesOfCut.{is_place};
 ghost use Rattle.sv_interp.specs.Machine.{listed};
 
 use crate::inserts::is_grow_only;
-use crate::looks::is_place;
 use std::alloc::Global;
 use sv_app::{Act, Ident, Inv, InvBody, Place, Table};
-use sv_effect::{Need, RowEffect, Write, key_values};
+use sv_effect::{Need, RowEffect, Write, is_place, key_values};
 use sv_value::{Key, List, NoMemory, Val};
 
 /// The place of the row that a change changes.

@@ -9,7 +9,6 @@ ghost use Rattle.sv_interp.specs.Keeping.{Statements, Statement, Turn, RowTurns,
 ghost use Rattle.sv_interp.specs.Machine.{progress_of, stand, flow_of, setting_of, Runs, Reaches, closing, looping};
 
 use crate::keys::met_keys;
-use crate::looks::look;
 use crate::loops::split;
 use crate::scopes::Progress;
 use crate::settings::Setting;
@@ -21,7 +20,7 @@ use crate::states::State;
 use crate::values::truth;
 use std::alloc::Global;
 use sv_app::{Cond, Ident, Parts, Place, Stmt, parts_of};
-use sv_effect::{Halt, Outcome, Rows};
+use sv_effect::{Halt, Outcome, Rows, look};
 use sv_value::{Key, Val};
 
 /// Runs statements in order.

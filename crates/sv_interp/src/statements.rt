@@ -12,14 +12,13 @@ ghost use Rattle.sv_interp.specs.Machine.{declared, stand, flow_of, setting_of, 
 
 use crate::changes::{insert_row, remove_row, update_row};
 use crate::inserts::{key_in, key_of, values};
-use crate::looks::look;
 use crate::loops::unit_of;
 use crate::settings::Setting;
 use crate::states::State;
 use crate::values::value;
 use std::alloc::Global;
 use sv_app::{Arg, Expr, Ident, Place, Table};
-use sv_effect::{Halt, Outcome, Rows};
+use sv_effect::{Halt, Outcome, Rows, look};
 use sv_value::{List, NoMemory, Val};
 
 /// Gives a variable the value of an expression.

@@ -12,15 +12,8 @@ use std::alloc::Global;
 use std::mem::replace;
 use sv_app::limits::MOST_REPLIES;
 use sv_app::{Act, Got, Instance, Place, Source, Stmt};
-use sv_effect::{Outcome, RowEffect, Write};
+use sv_effect::{LeftRow, Outcome, RowEffect, Write};
 use sv_value::{List, NoMemory, Val};
-
-/// A row as the run left it.
-#[derive(Debug, Drop)]
-pub struct OwnRow {
-    pub values: List<Got>,
-    pub present: bool,
-}
 
 /// An instance of a unit, in which nothing was done yet.
 pub fn beginning(alloc: Global, unit: u16, number: u32) -> Progress
@@ -51,7 +44,7 @@ pub fn instance_of(progress: Progress) -> Instance
 #[derive(Debug, Drop)]
 pub struct State {
     pub scope: Scope,
-    pub own: Vec<(Place, OwnRow)>,
+    pub own: Vec<(Place, LeftRow)>,
     pub effects: List<RowEffect>,
     pub replies: List<Val>,
     pub instances: List<Instance>,

@@ -3,8 +3,8 @@ use Rattle.sv_app.specs.Schema.{schema_of}
 use Rattle.sv_effect.specs.Follows.{Follows}
 use Rattle.sv_effect.specs.RunChanges.{effect_of}
 use Rattle.sv_effect.specs.Effects.{with_effects}
+use Rattle.sv_effect.specs.Overlays.{over}
 use Rattle.sv_check.specs.Bounds.{ChangesBounded}
-use Rattle.sv_check.specs.Left.{over}
 use Rattle.sv_check.proofs.changes.rows_after.Given as goal
 
 abbrev pub invariant-loop-effect : goal.invariant-loop-effect

@@ -1,7 +1,7 @@
 use Rattle.std.proofs.Common.{◌≡◌, take}
 use Rattle.sv_effect.specs.Follows.{Follows}
+use Rattle.sv_effect.specs.Overlays.{over}
 use Rattle.sv_check.specs.Clashes.{values_at}
-use Rattle.sv_check.specs.Left.{over}
 use Rattle.sv_check.proofs.clashes.present_values.Given as goal
 
 abbrev pub invariant-loop-key : goal.invariant-loop-key

@@ -1,7 +1,7 @@
 use Rattle.std.proofs.Common.{◌≡◌, subst}
 use Rattle.sv_app.specs.Schema.{schema_of}
 use Rattle.sv_effect.specs.Follows.{Follows}
-use Rattle.sv_check.specs.Left.{over}
+use Rattle.sv_effect.specs.Overlays.{over}
 use Rattle.sv_check.specs.Least.{IsLeast}
 use Rattle.sv_check.specs.Clashes.{values_at, Clashes}
 use Rattle.sv_check.proofs.LeastBrokenLaws.{clash_broken}

@@ -1,6 +1,6 @@
 use Rattle.std.proofs.Common.{None}
-use Rattle.sv_interp.proofs.KeyLaws.{WalkedTo}
-use Rattle.sv_interp.proofs.walks.walk.Given as goal
+use Rattle.sv_effect.proofs.KeyLaws.{WalkedTo}
+use Rattle.sv_effect.proofs.keys.walk.Given as goal
 
 abbrev pub invariant-loop-key : goal.invariant-loop-key
 invariant-loop-key g l =

@@ -1,6 +1,6 @@
 use Rattle.std.proofs.Common.{None}
-use Rattle.sv_interp.proofs.KeyLaws.{walk_goes, walk_ends}
-use Rattle.sv_interp.proofs.walks.walk.Goals as goal
+use Rattle.sv_effect.proofs.KeyLaws.{walk_goes, walk_ends}
+use Rattle.sv_effect.proofs.keys.walk.Goals as goal
 
 pub loop-key-preserved : goal.loop-key-preserved
 loop-key-preserved g c = record {

@@ -1,5 +1,5 @@
--- The keys of the present rows after a row was written.
-use Rattle.std.proofs.Common.{◌≡◌, ◌≢◌, ℕ, Bool, true, false, cond, ◌==◌, List, [], ◌∷◌, Option, Some, None, refl, sym, ap, subst, ◌∙◌}
+-- The keys of the present rows of a table, and those after a row was written.
+use Rattle.std.proofs.Common.{◌≡◌, ◌≢◌, ℕ, Bool, true, false, cond, ◌==◌, List, [], ◌∷◌, ◌++◌, Option, Some, None, refl, sym, ap, subst, ◌∙◌}
 use Rattle.std.specs.declared.cmp.Ordering.{Ordering}
 use Rattle.std.specs.declared.cmp.Ordering.TheVariants.{Less, Equal, Greater}
 use Rattle.std.specs.Ordering.{is_lt, is_eq}
@@ -10,12 +10,16 @@ use Rattle.sv_value.proofs.OrderLaws.{exact_keys}
 use Rattle.sv_app.specs.declared.places.Place.{Place}
 use Rattle.sv_app.specs.Tables.{place_cmp, Row, Tables}
 use Rattle.sv_app.proofs.PlaceLaws.{place_total}
+use Rattle.sv_effect.specs.declared.left.LeftRow.{LeftRow}
 use Rattle.sv_effect.specs.Agrees.{place_at, seen_in, is_present, is_after}
+use Rattle.sv_effect.specs.Faces.{Face}
+use Rattle.sv_effect.specs.Follows.{Follows}
+use Rattle.sv_effect.specs.Keys.{Walks, Walked, with_by, with_key, without_by, without_key, laid}
+use Rattle.sv_effect.specs.Overlays.{left_row, over}
+use Rattle.sv_effect.specs.Reads.{ReadValue}
 use Rattle.sv_effect.specs.Run.{present_keys}
-use Rattle.sv_interp.specs.declared.states.OwnRow.{OwnRow}
-use Rattle.sv_interp.specs.Keys.{Walks, with_by, with_key, without_by, without_key, laid}
-use Rattle.sv_interp.specs.Machine.{own_row, over}
-use Rattle.sv_interp.proofs.KeyLaws.{less_of, below_of, self_of, lt_trans, later, walk_along, walk_keys, found, keys_walk, in_table, other_table}
+use Rattle.sv_effect.proofs.FollowLaws.{so}
+use Rattle.sv_effect.proofs.KeyLaws.{less_of, below_of, self_of, lt_trans, later, walk_along, walk_keys, found, keys_walk, in_table, other_table}
 
 lt_apart : (k j : Key) → is_lt (key_cmp k j) ≡ true → k ≢ j
 lt_apart k j l e = let h : key_cmp j j ≡ Less = subst (λ z. key_cmp z j ≡ Less) e (less_of _ l) in let g = self_of j _ refl in cc
@@ -87,7 +91,7 @@ without_walk j p q gone' other after (x ∷ xs) h = placed (key_cmp j x) refl (w
       ih,
     )
 
-present_walk : (t : Tables) (table : ℕ) → Walks (is_present t table) None (present_keys t table)
+pub present_walk : (t : Tables) (table : ℕ) → Walks (is_present t table) None (present_keys t table)
 present_walk t table = walk_along (found table (entries t)) (is_present t table) None (present_keys t table)
     (λ k a. ap (λ o. (seen_in o).present) (sym (get-entries t (place_at table k)))) (keys_walk table (entries t) (entries_sorted t))
 
@@ -114,24 +118,36 @@ not_equal Greater n = refl
 written_elsewhere : (t : Tables) (table : ℕ) (p : Place) (row : Row) (k : Key) → (table == p.table) ≡ false → is_present (insert t p row) table k ≡ is_present t table k
 written_elsewhere t table p row k h = written t table p row k ∙ ap (λ b. (seen_in (cond b (Some row) (get t (place_at table k)))).present) (not_equal _ (other_table table k p h))
 
-pub laid_keys : (t : Tables) (e : Place × OwnRow) (table : ℕ) → laid e table (present_keys t table) ≡ present_keys (insert t e.0 (own_row e.1)) table
+pub laid_keys : (t : Tables) (e : Place × LeftRow) (table : ℕ) → laid e table (present_keys t table) ≡ present_keys (insert t e.0 (left_row e.1)) table
 laid_keys t e table = by_table (table == e.0.table) refl
   where
     p : Key → Bool
     p = is_present t table
 
     q : Key → Bool
-    q = is_present (insert t e.0 (own_row e.1)) table
+    q = is_present (insert t e.0 (left_row e.1)) table
 
-    by_present : (c : Bool) → e.1.present ≡ c → (table == e.0.table) ≡ true → cond c (with_key e.0.key (present_keys t table)) (without_key e.0.key (present_keys t table)) ≡ present_keys (insert t e.0 (own_row e.1)) table
-    by_present true c h = walk_keys (insert t e.0 (own_row e.1)) table _ (with_walk e.0.key p q (written_here t table e.0 (own_row e.1) h ∙ c) (λ k n. written_other t table e.0 (own_row e.1) k h n) None (present_keys t table) refl (present_walk t table))
-    by_present false c h = walk_keys (insert t e.0 (own_row e.1)) table _ (without_walk e.0.key p q (written_here t table e.0 (own_row e.1) h ∙ c) (λ k n. written_other t table e.0 (own_row e.1) k h n) None (present_keys t table) (present_walk t table))
+    by_present : (c : Bool) → e.1.present ≡ c → (table == e.0.table) ≡ true → cond c (with_key e.0.key (present_keys t table)) (without_key e.0.key (present_keys t table)) ≡ present_keys (insert t e.0 (left_row e.1)) table
+    by_present true c h = walk_keys (insert t e.0 (left_row e.1)) table _ (with_walk e.0.key p q (written_here t table e.0 (left_row e.1) h ∙ c) (λ k n. written_other t table e.0 (left_row e.1) k h n) None (present_keys t table) refl (present_walk t table))
+    by_present false c h = walk_keys (insert t e.0 (left_row e.1)) table _ (without_walk e.0.key p q (written_here t table e.0 (left_row e.1) h ∙ c) (λ k n. written_other t table e.0 (left_row e.1) k h n) None (present_keys t table) (present_walk t table))
 
-    by_table : (b : Bool) → (table == e.0.table) ≡ b → cond b (cond e.1.present (with_key e.0.key (present_keys t table)) (without_key e.0.key (present_keys t table))) (present_keys t table) ≡ present_keys (insert t e.0 (own_row e.1)) table
+    by_table : (b : Bool) → (table == e.0.table) ≡ b → cond b (cond e.1.present (with_key e.0.key (present_keys t table)) (without_key e.0.key (present_keys t table))) (present_keys t table) ≡ present_keys (insert t e.0 (left_row e.1)) table
     by_table true h = by_present e.1.present refl h
-    by_table false h = walk_keys (insert t e.0 (own_row e.1)) table _ (walk_along p q None (present_keys t table) (λ k a. sym (written_elsewhere t table e.0 (own_row e.1) k h)) (present_walk t table))
+    by_table false h = walk_keys (insert t e.0 (left_row e.1)) table _ (walk_along p q None (present_keys t table) (λ k a. sym (written_elsewhere t table e.0 (left_row e.1) k h)) (present_walk t table))
 
-pub laid_over : (e : Place × OwnRow) (es : List (Place × OwnRow)) (t : Tables) (table : ℕ) (under left : List Key) → under ≡ present_keys (over es t) table → left ≡ laid e table under → left ≡ present_keys (over (e ∷ es) t) table
+pub laid_over : (e : Place × LeftRow) (es : List (Place × LeftRow)) (t : Tables) (table : ℕ) (under left : List Key) → under ≡ present_keys (over es t) table → left ≡ laid e table under → left ≡ present_keys (over (e ∷ es) t) table
 laid_over e es t table under left h g = g ∙ ap (laid e table) h ∙ laid_keys (over es t) e table
 
 pub ruleset laying = (laid_over)
+
+-- a table was walked from its start
+pub walked_present : (o n : Face) (a b : Option (List ReadValue)) (table : ℕ) (old new : List Key) → Walked o n a b table None old new → old ≡ [] → Follows o n a b (λ t. new ≡ present_keys t table)
+walked_present o n a b table old new w e = so o n a b _ _ w.ran (λ t walk. w.grown ∙ ap (λ l. l ++ w.keys) e ∙ walk_keys t table w.keys walk)
+
+-- and what changes left was put over it
+pub present_laid : (o n : Face) (a b : Option (List ReadValue)) (left : List (Place × LeftRow)) (table : ℕ) (under keys : List Key)
+    → Follows o n a b (λ t. under ≡ present_keys t table) → ((t : Tables) → under ≡ present_keys t table → keys ≡ present_keys (over left t) table)
+    → Follows o n a b (λ t. keys ≡ present_keys (over left t) table)
+present_laid o n a b left table under keys f h = so o n a b _ _ f h
+
+pub ruleset laid_all = (present_laid)

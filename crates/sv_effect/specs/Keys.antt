@@ -7,11 +7,11 @@ use Rattle.std.specs.declared.cmp.Ordering.TheVariants.{Less, Equal, Greater}
 use Rattle.sv_value.specs.declared.values.Key.{Key}
 use Rattle.sv_value.specs.Orders.{key_cmp}
 use Rattle.sv_app.specs.declared.places.Place.{Place}
+use Rattle.sv_effect.specs.declared.left.LeftRow.{LeftRow}
 use Rattle.sv_effect.specs.Agrees.{is_after, is_present}
 use Rattle.sv_effect.specs.Faces.{Face}
 use Rattle.sv_effect.specs.Follows.{Follows}
 use Rattle.sv_effect.specs.Reads.{ReadValue}
-use Rattle.sv_interp.specs.declared.states.OwnRow.{OwnRow}
 
 -- the least key after the given one at which the test holds, or none
 abbrev pub IsNextBy : (Key → Bool) → Option Key → Option Key → Type 0
@@ -60,5 +60,5 @@ pub record IsMissingAt (j : Key) (ks : List Key) (at : ℕ) : Type 0 where
   pub without_it : without_key j ks ≡ ks
 
 -- the keys of present rows of a table, after a row was written
-abbrev pub laid : Place × OwnRow → ℕ → List Key → List Key
+abbrev pub laid : Place × LeftRow → ℕ → List Key → List Key
 laid e table ks = if table == e.0.table then (if e.1.present then with_key e.0.key ks else without_key e.0.key ks) else ks

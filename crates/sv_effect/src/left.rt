@@ -1,22 +1,22 @@
-//! Rows that changes left, and what stands at a place after the changes.
+//! Rows that changes left over a source of rows, and what stands at a place after the changes.
 
-ghost use Rattle.std.specs.Prelude.{◌≡◌, ◌≤◌, ℕ, IfOk, List};
+ghost use Rattle.std.specs.Prelude.{◌≡◌, IfOk};
 ghost use Rattle.std.specs.FinMap.{get};
-ghost use Rattle.sv_app.specs.Schema.{Declaration};
 ghost use Rattle.sv_app.specs.Tables.{Tables};
 ghost use Rattle.sv_effect.specs.Asked.{Asked};
 ghost use Rattle.sv_effect.specs.Follows.{Follows};
+ghost use Rattle.sv_effect.specs.Overlays.{over, left_row, left_rows, hides, lent, told_row, FoundFits};
 ghost use Rattle.sv_effect.specs.Reads.{seen_of};
 ghost use Rattle.sv_effect.specs.TablesOfCut.{is_place};
-ghost use Rattle.sv_check.specs.Bounds.{IsBounded, LeftBounded};
-ghost use Rattle.sv_check.specs.Left.{over, left_row, left_rows, hides, lent, told_row};
 
+use crate::asks::ask_row;
+use crate::reads::{Halt, Seen};
+use crate::rows::Rows;
 use std::alloc::Global;
 use sv_app::{Got, Place};
-use sv_effect::{Halt, Rows, Seen, ask_row};
 use sv_value::{List, NoMemory};
 
-/// A row as a change left it.
+/// A row as a change left it: a value for each column, and whether it is present.
 #[derive(Debug, Drop)]
 pub struct LeftRow {
     pub values: List<Got>,
@@ -30,11 +30,10 @@ pub fn is_place(one: &Place, other: &Place) -> bool
     one.cmp(other).is_eq()
 }
 
-/// The row that changes left there, if they left one.
-#[tactic(auto, using(crate::proofs::LeftLaws::looking, crate::proofs::BoundLaws::looking))]
+/// The row that changes left there, if they left one. The latest stands first.
+#[tactic(auto, using(crate::proofs::OverlayLaws::looking))]
 pub fn left_at<'a>(left: &'a [(Place, LeftRow)], place: &Place) -> Option<&'a LeftRow>
-    ensures value { (t : Tables) → get (over left.now t) place.now ≡ hides (lent result) (get t place.now) }
-    ensures bounded { (schema : List Declaration) (writes : ℕ) → LeftBounded schema writes left.now → IsBounded schema writes place.now (lent result) }
+    ensures { (t : Tables) → get (over left.now t) place.now ≡ hides (lent result) (get t place.now) }
 {
     match left.split_first() {
         None => None,
@@ -48,7 +47,8 @@ pub fn left_at<'a>(left: &'a [(Place, LeftRow)], place: &Place) -> Option<&'a Le
     }
 }
 
-fn copy_values(alloc: Global, values: &[Got]) -> Result<List<Got>, NoMemory>
+/// A list of these values.
+pub fn copy_values(alloc: Global, values: &[Got]) -> Result<List<Got>, NoMemory>
     ensures { IfOk result (λ copy. copy ≡ values.now) }
 {
     Ok(List::from_vec(Vec::from_slice(alloc, values)?))
@@ -75,8 +75,9 @@ fn told_row(alloc: Global, seen: &Seen) -> Result<Option<LeftRow>, NoMemory>
     }))
 }
 
-/// What stands at a place: the row that changes left there, else the one that is told of.
-#[tactic(auto, using(crate::proofs::LeftLaws::looking, crate::proofs::BoundLaws::looking))]
+/// What stands at a place: the row that changes left there, the latest first, else the one that is told of; none where
+/// no row is kept. It fails where the rows do, and where there is no memory for a copy of the row.
+#[tactic(auto, using(crate::proofs::OverlayLaws::looking))]
 pub fn look<R: Rows>(
     alloc: Global,
     left: &[(Place, LeftRow)],
@@ -84,7 +85,7 @@ pub fn look<R: Rows>(
     place: &Place,
 ) -> Result<Option<LeftRow>, Halt>
     ensures followed { IfOk result (λ row. Follows (R.face rows.old) (R.face rows.new) (R.noted rows.old) (R.noted rows.new) (λ t. get (over left.now t) place.now ≡ left_rows row)) }
-    ensures bounded { IfOk result (λ row. (schema : List Declaration) (writes : ℕ) → writes ≤ 1024 → R.is_of rows.old schema → LeftBounded schema writes left.now → IsBounded schema writes place.now (left_rows row)) }
+    ensures fits { IfOk result (λ row. FoundFits (R.is_of rows.old) left.now place.now (left_rows row)) }
     ensures asked { Asked R.stays R.face rows.old rows.new result }
 {
     match left_at(left, place) {

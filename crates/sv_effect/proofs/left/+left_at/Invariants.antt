@@ -1,5 +1,5 @@
 use Rattle.std.proofs.Common.{length}
-use Rattle.sv_check.proofs.left.+left_at.Given as goal
+use Rattle.sv_effect.proofs.left.+left_at.Given as goal
 
 abbrev pub decreases-left_at : goal.decreases-left_at
 decreases-left_at l = length l.left.now

@@ -18,7 +18,7 @@ use Rattle.sv_effect.specs.Follows.{Follows}
 use Rattle.sv_effect.specs.Reads.{ReadValue}
 use Rattle.sv_effect.specs.Run.{keys_among, present_keys}
 use Rattle.sv_effect.proofs.FollowLaws as follow
-use Rattle.sv_interp.specs.Keys.{Walks, Walked}
+use Rattle.sv_effect.specs.Keys.{Walks, Walked}
 
 clash : {P : Type 0} (b : Bool) → b ≡ true → b ≡ false → P
 clash b h k = cc

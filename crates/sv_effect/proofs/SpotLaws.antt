@@ -4,7 +4,7 @@ use Rattle.std.proofs.lemmas.List.{take_more, drop_more, drop_all, take_all}
 use Rattle.std.specs.declared.cmp.Ordering.TheVariants.{Less, Equal, Greater}
 use Rattle.sv_value.specs.declared.values.Key.{Key}
 use Rattle.sv_value.specs.Orders.{key_cmp}
-use Rattle.sv_interp.specs.Keys.{with_by, with_key, without_by, without_key, StandsAt, IsMissingAt}
+use Rattle.sv_effect.specs.Keys.{with_by, with_key, without_by, without_key, StandsAt, IsMissingAt}
 
 -- Those that were passed stay where they are: with the key and without it, the others change alone.
 pub record Passes (j : Key) (ks : List Key) (at : ℕ) : Type 0 where

@@ -1,5 +1,5 @@
-use Rattle.sv_interp.proofs.SpotLaws.{Passes}
-use Rattle.sv_interp.proofs.overlays.find.Given as goal
+use Rattle.sv_effect.proofs.SpotLaws.{Passes}
+use Rattle.sv_effect.proofs.keys.find.Given as goal
 
 abbrev pub invariant-loop-at : goal.invariant-loop-at
 invariant-loop-at l = Passes l.key l.keys l.at

@@ -1,5 +1,0 @@
-use Rattle.std.proofs.Common.{length}
-use Rattle.sv_interp.proofs.overlays.+lay_all.Given as goal
-
-abbrev pub decreases-lay_all : goal.decreases-lay_all
-decreases-lay_all l = length l.own.now
