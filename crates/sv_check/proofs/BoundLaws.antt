@@ -3,8 +3,6 @@ use Rattle.std.proofs.Common.{◌≡◌, ℕ, zero, suc, ◌+◌, ◌*◌, ◌<�
 use Rattle.std.proofs.lemmas.Int.{ints}
 use Rattle.std.proofs.lemmas.Map.Views.{tells_apart}
 use Rattle.std.specs.FinMap.{get, get-empty, empty}
-use Rattle.sv_value.specs.declared.values.Val.{Val}
-use Rattle.sv_value.specs.declared.values.Val.TheVariants as vals
 use Rattle.sv_app.specs.declared.gots.Got.{Got}
 use Rattle.sv_app.specs.declared.gots.Got.TheVariants.{Num, Text}
 use Rattle.sv_app.specs.declared.places.Place.{Place}
@@ -28,7 +26,7 @@ use Rattle.sv_effect.specs.Overlays.{over, left_row, left_rows, FoundFits}
 use Rattle.sv_effect.specs.RowsFit.{IsWord, NumberFits, GotFits, GotsFit, SeenFits}
 use Rattle.sv_effect.specs.RunChanges.{written_got, with_write, with_writes}
 use Rattle.sv_effect.specs.RunValues.{column}
-use Rattle.sv_effect.specs.Words.{IsWordVal, IsWordGot, AreWordGots}
+use Rattle.sv_effect.specs.Words.{IsWordGot, AreWordGots}
 use Rattle.sv_effect.proofs.OverlayLaws.{left_here, left_past, found_by}
 use Rattle.sv_effect.proofs.WordLaws.{set_word}
 use Rattle.sv_effect.specs.TablesOfCut.{is_place}
