@@ -5,9 +5,11 @@
 mod checks;
 mod columns;
 mod invariants;
+mod laws;
 mod parts;
 mod reading;
 mod tables;
 
+pub use laws::refused_once;
 pub use parts::{Order, Side};
 pub use reading::read_schema;

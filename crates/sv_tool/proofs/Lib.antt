@@ -9,6 +9,7 @@ pub mod KindLaws
 pub mod LeafLaws
 pub mod ListLaws
 pub mod ManyLaws
+pub mod OneLaws
 pub mod PartLaws
 pub mod PlaceLaws
 pub mod ReplayLaws

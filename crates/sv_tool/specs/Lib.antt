@@ -6,6 +6,7 @@ pub mod Commands
 pub mod Form
 pub mod Grammar
 pub mod Headline
+pub mod Laws
 pub mod Lines
 pub mod ReadDocument
 pub mod Reading

@@ -18,7 +18,7 @@ mod texts;
 mod tops;
 mod words;
 
-pub use laws::rows_are_listed;
+pub use laws::{one_answer, rows_are_listed};
 pub use reader_laws::reading_is_grammar;
 pub use reader_replays::read_replay;
 pub use steps::{Replay, Step};

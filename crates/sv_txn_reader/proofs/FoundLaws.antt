@@ -161,15 +161,10 @@ refused_none tokens ts rest fault e are = by_late (not_read ts tokens rest fault
             let left : fault.left ≡ length s.rest = ap (λ (f : ReadFault). f.left) s.place in
             by_cause s.front s.rest s.code code (let few = late.1 in omega (arith, left, few)) s.cause
 
+-- transactions that keep the limits are read
+pub txns_are_read : (tokens : List Token) (ts : List Transaction) (rest : List Token) → AreRead ts tokens rest → txns_at tokens ≡ Ok (ts, rest)
+txns_are_read tokens ts rest are = never_late (txns_at tokens) ts rest (txns_law.all 0 ts tokens rest are.is (no_txn rest are.ends)) (λ fault e. refused_none tokens ts rest fault e are)
+
 -- transactions are read in one way
 pub read_once : (tokens : List Token) (ts us : List Transaction) (rest last : List Token) → AreRead ts tokens rest → AreRead us tokens last → Same ts us rest last
-read_once tokens ts us rest last first second = by_read (txns_at tokens) refl
-  where
-    sure : (read : List Transaction × List Token) → txns_at tokens ≡ Ok read → (fault : ReadFault) → txns_at tokens ≡ Err fault → ⊥
-    sure read e fault f = let bad : ◌≡◌ {A = Read (List Transaction)} (Ok read) (Err fault) = sym e ∙ f in absurd cc
-
-    by_read : (read : Read (List Transaction)) → txns_at tokens ≡ read → Same ts us rest last
-    by_read (Err fault) e = absurd (refused_none tokens ts rest fault e first)
-    by_read (Ok read) e =
-        same_read (sym (never_late (txns_at tokens) ts rest (txns_law.all 0 ts tokens rest first.is (no_txn rest first.ends)) (sure read e))
-        ∙ never_late (txns_at tokens) us last (txns_law.all 0 us tokens last second.is (no_txn last second.ends)) (sure read e))
+read_once tokens ts us rest last first second = same_read (sym (txns_are_read tokens ts rest first) ∙ txns_are_read tokens us last second)

@@ -1,3 +1,4 @@
+pub mod ApartLaws
 pub mod BlockLaws
 pub mod BlockRoomLaws
 pub mod ChainLaws

@@ -1,4 +1,4 @@
--- A document gets one refusal.
+-- A document gets one refusal, or is read.
 use Rattle.std.proofs.Common.{◌≡◌, ◌∙◌, ℕ, ◌-◌, ◌<◌, ◌≤◌, ◌⊎◌, inl, inr, List, length, map, drop, Some, Ok, refl, sym, ap, subst, arith}
 use Rattle.std.specs.List.{slice_get}
 use Rattle.std.proofs.lemmas.List.{length-map}
@@ -17,8 +17,9 @@ use Rattle.sv_check.proofs.AnswerLaws.{not_valid}
 use Rattle.sv_effect.specs.Initial.{AreDistinct}
 use Rattle.sv_reader.specs.Places.{spot_of}
 use Rattle.sv_reader.specs.Reading.{Read, IsLeft}
+use Rattle.sv_workload.specs.declared.parts.Parts.{Parts}
 use Rattle.sv_workload.specs.declared.written.Row.{Row}
-use Rattle.sv_workload.specs.Documents.{AreRows, AreGood, IsRefused, InInit, ByInvariant, InLast}
+use Rattle.sv_workload.specs.Documents.{AreRows, AreGood, AreParts, IsRefused, InInit, ByInvariant, InLast}
 use Rattle.sv_workload.specs.Elements.{Refusals, IsFirst}
 use Rattle.sv_workload.specs.InitRefused.{InitRefused}
 use Rattle.sv_workload.specs.LastRefused.{LastRefused}
@@ -103,3 +104,13 @@ refused_once schema txns tokens end a b (InLast rows rest c h good first pa) (In
     let count : length rows ≡ length others = sym (length-map rows (init_row schema)) ∙ ap length same.items ∙ length-map others (init_row schema) in
     let here : IsFirst (LastRefused schema txns (length others) last) c h = subst (λ (x : ℕ × List Token). IsFirst (LastRefused schema txns x.0 x.1) c h) (λ i. (count i, same.rests i)) first in
     placed_once last end c d h k a b pa pb (last_suffix schema txns (length others) last c h here.is) (last_suffix schema txns (length others) last d k other.is) (first_once here other)
+
+-- parts that are read aren't refused
+pub parts_apart : (schema : List Declaration) (transactions : List Transaction) (tokens : List Token) (end : Spot) (refusal : Refusal) (p : Parts) → AreParts schema transactions tokens p → IsRefused schema transactions tokens end refusal → ⊥
+parts_apart schema transactions tokens end refusal p are (InInit code here first place) = are.init.read.right code here first.is
+parts_apart schema transactions tokens end refusal p are (ByInvariant rows rest row number of were broken at place) = not_good schema tokens rows are.rows rest are.rest row number were broken are.init
+parts_apart schema transactions tokens end refusal p are (InLast rows rest code here good first place) =
+    let same = rows_once schema tokens rows are.rows rest are.rest good.read are.init.read in
+    let count : length rows ≡ length are.rows = sym (length-map rows (init_row schema)) ∙ ap length same.items ∙ length-map are.rows (init_row schema) in
+    let here_is : IsFirst (LastRefused schema transactions (length are.rows) are.rest) code here = subst (λ (x : ℕ × List Token). IsFirst (LastRefused schema transactions x.0 x.1) code here) (λ i. (count i, same.rests i)) first in
+    are.right code here here_is.is

@@ -1,0 +1,159 @@
+-- Words and bytes ask for one answer.
+use Rattle.std.proofs.Common.{◌≡◌, ◌∙◌, ℕ, ◌≤◌, ◌<◌, List, [], ◌∷◌, ◌++◌, length, Result, Ok, Err, refl, sym, ap, subst, arith, codes}
+use Rattle.std.specs.Fmt.{decimal}
+use Rattle.sv_io.specs.Flows.{most_bytes}
+use Rattle.sv_value.specs.declared.spots.Spot.{Spot}
+use Rattle.sv_lex.specs.declared.tokens.Token.{Token}
+use Rattle.sv_lex.specs.Spots.{spot_at}
+use Rattle.sv_lex.specs.Standing.{place_of}
+use Rattle.sv_lex.specs.Tokens.{Fault, lexed}
+use Rattle.sv_app.specs.declared.refusals.Refusal.{Refusal}
+use Rattle.sv_app.specs.Codes.{number_of}
+use Rattle.sv_app.specs.Numbers.{numbered}
+use Rattle.sv_app.specs.Schema.{Declaration}
+use Rattle.sv_app.specs.Trees.{Transaction}
+use Rattle.sv_app.specs.TxnNumbers.{numbered_txns}
+use Rattle.sv_schema_reader.proofs.ApartLaws.{tables_once, tables_apart}
+use Rattle.sv_schema_reader.proofs.OnceLaws as tables
+use Rattle.sv_txn_reader.specs.Refused.{AreRead}
+use Rattle.sv_txn_reader.proofs.ApartLaws.{txns_apart}
+use Rattle.sv_txn_reader.proofs.FoundLaws.{read_once}
+use Rattle.sv_txn_reader.proofs.OnceLaws as transactions
+use Rattle.sv_typing.proofs.PlaceLaws as typing
+use Rattle.sv_workload.proofs.OnceLaws as parts
+use Rattle.sv_workload.proofs.OnceLaws.{parts_apart}
+use Rattle.sv_tool.specs.declared.statuses.Status.TheVariants.{Refused}
+use Rattle.sv_tool.specs.declared.words.Command.{Command}
+use Rattle.sv_tool.specs.declared.words.Command.TheVariants.{Replay, Check}
+use Rattle.sv_tool.specs.Answer.{Answer}
+use Rattle.sv_tool.specs.CheckText.{AreWhole, AreBehind, AreAccepted, IsLater, Unaccepted, InParts, IsRefusalBehind, UnreadTxns, Later, IsRefusal, Unread, Behind, sizes_of, IsDocument, code_of, accepted_with, refused_with, IsCheckAnswer, Accepts, Long, Faulty, Refuses}
+use Rattle.sv_tool.specs.Commands.{IsWordOf, IsAnswerOf, IsAnswer, Of, Other}
+use Rattle.sv_tool.specs.Laws.{OneAnswer}
+use Rattle.sv_tool.proofs.CheckLaws.{tokens_of_document, no_document}
+
+-- the same text of two refusals
+abbrev Shown : Refusal → Refusal → Type 0
+Shown a b = refused_with a ≡ refused_with b
+
+shown : (a b : Refusal) → a.spot.line ≡ b.spot.line → a.spot.col ≡ b.spot.col → number_of a.code ≡ number_of b.code → Shown a b
+shown a b lines cols numbers =
+    λ i. record { status = Refused; text = codes "refused " ++ decimal (lines i) ++ codes ":" ++ decimal (cols i) ++ codes " " ++ decimal (numbers i) ++ codes "\n" }
+
+-- behind tables and transactions
+
+module _ (schema : List Declaration) (txns : List Transaction) (rest : List Token) (end : Spot) where
+  later_apart : (refusal : Refusal) → AreWhole schema txns rest → IsLater schema txns rest end refusal → ⊥
+  later_apart refusal whole (Unaccepted is) = typing.never_both schema txns refusal whole.accepted is
+  later_apart refusal whole (InParts accepted is) = parts_apart (numbered schema) (numbered_txns schema txns) rest end refusal whole.parts whole.behind is
+
+  later_once : (a b : Refusal) → IsLater schema txns rest end a → IsLater schema txns rest end b → Shown a b
+  later_once a b (Unaccepted x) (Unaccepted y) = let same = typing.refused_once schema txns a b x y in shown a b same.0 same.1 same.2
+  later_once a b (Unaccepted x) (InParts accepted y) = absurd (typing.never_both schema txns a accepted x)
+  later_once a b (InParts accepted x) (Unaccepted y) = absurd (typing.never_both schema txns b accepted y)
+  later_once a b (InParts accepted x) (InParts again y) =
+      let same = parts.refused_once (numbered schema) (numbered_txns schema txns) rest end a b x y in shown a b (ap (λ (s : Spot). s.line) same.0) (ap (λ (s : Spot). s.col) same.0) same.1
+
+-- behind tables
+
+module _ (schema : List Declaration) (tokens : List Token) (end : Spot) where
+  behind_apart : (ts : List Transaction) (refusal : Refusal) → AreBehind schema tokens ts → IsRefusalBehind schema tokens end refusal → ⊥
+  behind_apart ts refusal are (UnreadTxns is) = txns_apart tokens ts are.rest end refusal are.read is
+  behind_apart ts refusal are (Later us rest read is) =
+      let same = read_once tokens us ts rest are.rest read are.read in
+      later_apart schema ts are.rest end refusal are.whole (subst (λ (p : List Transaction × List Token). IsLater schema p.0 p.1 end refusal) (λ i. (same.item i, same.rests i)) is)
+
+  behind_once : (a b : Refusal) → IsRefusalBehind schema tokens end a → IsRefusalBehind schema tokens end b → Shown a b
+  behind_once a b (UnreadTxns x) (UnreadTxns y) = ap refused_with (transactions.refused_once tokens end a b x y)
+  behind_once a b (UnreadTxns x) (Later us rest read y) = absurd (txns_apart tokens us rest end a read x)
+  behind_once a b (Later us rest read x) (UnreadTxns y) = absurd (txns_apart tokens us rest end b read y)
+  behind_once a b (Later us rest read x) (Later ts last are y) =
+      let same = read_once tokens us ts rest last read are in
+      later_once schema ts last end a b (subst (λ (p : List Transaction × List Token). IsLater schema p.0 p.1 end a) (λ i. (same.item i, same.rests i)) x) y
+
+-- of all tokens
+
+there : (schema other : List Declaration) (rest last : List Token) (end : Spot) (refusal : Refusal) → schema ≡ other → rest ≡ last → IsRefusalBehind schema rest end refusal → IsRefusalBehind other last end refusal
+there schema other rest last end refusal tables tokens is = subst (λ (p : List Declaration × List Token). IsRefusalBehind p.0 p.1 end refusal) (λ i. (tables i, tokens i)) is
+
+module _ (tokens : List Token) where
+  accepted_once : (ds es : List Declaration) (ts us : List Transaction) → AreAccepted tokens ds ts → AreAccepted tokens es us → accepted_with (sizes_of ds ts) ≡ accepted_with (sizes_of es us)
+  accepted_once ds es ts us a b =
+      let same = tables_once a.front b.front a.rest b.rest ds es a.tables b.tables (sym a.whole ∙ b.whole) in
+      let read : AreRead ts b.rest a.behind.rest = subst (λ l. AreRead ts l a.behind.rest) same.rests a.behind.read in
+      let txns = read_once b.rest ts us a.behind.rest b.behind.rest read b.behind.read in
+      λ i. accepted_with (sizes_of (same.item i) (txns.item i))
+
+  module _ (end : Spot) where
+    accepted_apart : (ds : List Declaration) (ts : List Transaction) (refusal : Refusal) → AreAccepted tokens ds ts → IsRefusal tokens end refusal → ⊥
+    accepted_apart ds ts refusal a (Unread is) = tables_apart a.front a.rest ds a.tables tokens end refusal a.whole is
+    accepted_apart ds ts refusal a (Behind front rest schema whole read is) =
+        let same = tables_once front a.front rest a.rest schema ds read a.tables (sym whole ∙ a.whole) in behind_apart ds a.rest end ts refusal a.behind (there schema ds rest a.rest end refusal same.item same.rests is)
+
+    refusal_once : (a b : Refusal) → IsRefusal tokens end a → IsRefusal tokens end b → Shown a b
+    refusal_once a b (Unread x) (Unread y) = ap refused_with (tables.refused_once tokens end a b x y)
+    refusal_once a b (Unread x) (Behind front rest schema whole read y) = absurd (tables_apart front rest schema read tokens end a whole x)
+    refusal_once a b (Behind front rest schema whole read x) (Unread y) = absurd (tables_apart front rest schema read tokens end b whole y)
+    refusal_once a b (Behind front rest schema whole read x) (Behind other last declared all are y) =
+        let same = tables_once front other rest last schema declared read are (sym whole ∙ all) in behind_once declared last end a b (there schema declared rest last end a same.item same.rests x) y
+
+-- of a document
+
+too_long : {A : Type 0} (bytes : List ℕ) → length bytes ≤ most_bytes → most_bytes < length bytes → A
+too_long bytes short long = absurd (omega (arith, short, long))
+
+same_tokens : (a b : List Token) → ◌≡◌ {A = Result (List Token) Fault} (Ok a) (Ok b) → a ≡ b
+same_tokens a b e = cc
+
+same_fault : (a b : Fault) → ◌≡◌ {A = Result (List Token) Fault} (Err a) (Err b) → a ≡ b
+same_fault a b e = cc
+
+not_both : {A : Type 0} (tokens : List Token) (fault : Fault) (bytes : List ℕ) → lexed bytes ≡ Ok tokens → lexed bytes ≡ Err fault → A
+not_both tokens fault bytes e f = let bad : ◌≡◌ {A = Result (List Token) Fault} (Ok tokens) (Err fault) = sym e ∙ f in absurd cc
+
+module _ (bytes : List ℕ) where
+  fault_once : (f g : Fault) → lexed bytes ≡ Err f → lexed bytes ≡ Err g → refused_with (record { spot = spot_at bytes (place_of f); code = code_of f }) ≡ refused_with (record { spot = spot_at bytes (place_of g); code = code_of g })
+  fault_once f g e h = ap (λ fault. refused_with (record { spot = spot_at bytes (place_of fault); code = code_of fault })) (same_fault f g (sym e ∙ h))
+
+  document_apart : {A : Type 0} (ds : List Declaration) (ts : List Transaction) (tokens : List Token) (refusal : Refusal) → IsDocument bytes ds ts → lexed bytes ≡ Ok tokens → IsRefusal tokens (spot_at bytes (length bytes)) refusal → A
+  document_apart ds ts tokens refusal d are is = absurd (accepted_apart tokens (spot_at bytes (length bytes)) ds ts refusal (tokens_of_document bytes tokens ds ts are d) is)
+
+  refuses_once : (tokens seen : List Token) (a b : Refusal) → lexed bytes ≡ Ok tokens → lexed bytes ≡ Ok seen → IsRefusal tokens (spot_at bytes (length bytes)) a → IsRefusal seen (spot_at bytes (length bytes)) b → Shown a b
+  refuses_once tokens seen a b e f x y = refusal_once seen (spot_at bytes (length bytes)) a b (subst (λ l. IsRefusal l (spot_at bytes (length bytes)) a) (same_tokens tokens seen (sym e ∙ f)) x) y
+
+  check_once : (a b : Answer) → IsCheckAnswer bytes a → IsCheckAnswer bytes b → a ≡ b
+  check_once _ _ (Accepts ds ts d) (Accepts es us e) = accepted_once e.tokens ds es ts us (tokens_of_document bytes e.tokens ds ts e.are d) e.accepted
+  check_once _ _ (Accepts ds ts d) (Long long) = too_long bytes d.short long
+  check_once _ _ (Accepts ds ts d) (Faulty fault short is) = absurd (no_document bytes fault ds ts is d)
+  check_once _ _ (Accepts ds ts d) (Refuses tokens refusal short are is) = document_apart ds ts tokens refusal d are is
+  check_once _ _ (Long long) (Accepts ds ts d) = too_long bytes d.short long
+  check_once _ _ (Long long) (Long more) = refl
+  check_once _ _ (Long long) (Faulty fault short is) = too_long bytes short long
+  check_once _ _ (Long long) (Refuses tokens refusal short are is) = too_long bytes short long
+  check_once _ _ (Faulty fault short is) (Accepts ds ts d) = absurd (no_document bytes fault ds ts is d)
+  check_once _ _ (Faulty fault short is) (Long long) = too_long bytes short long
+  check_once _ _ (Faulty f short e) (Faulty g brief h) = fault_once f g e h
+  check_once _ _ (Faulty fault short e) (Refuses tokens refusal brief are is) = not_both tokens fault bytes are e
+  check_once _ _ (Refuses tokens refusal short are is) (Accepts ds ts d) = document_apart ds ts tokens refusal d are is
+  check_once _ _ (Refuses tokens refusal short are is) (Long long) = too_long bytes short long
+  check_once _ _ (Refuses tokens refusal brief are is) (Faulty fault short e) = not_both tokens fault bytes are e
+  check_once _ _ (Refuses tokens a short e x) (Refuses seen b brief f y) = refuses_once tokens seen a b e f x y
+
+-- the words of two commands differ
+two_words : {A : Type 0} (words : List (List ℕ)) → words ≡ codes "replay" ∷ [] → words ≡ codes "check" ∷ [] → A
+two_words words e f = let bad : 6 ≡ 5 = ap first_length (sym e ∙ f) in absurd (omega (arith, bad))
+  where
+    first_length : List (List ℕ) → ℕ
+    first_length [] = 0
+    first_length (word ∷ others) = length word
+
+command_once : (words : List (List ℕ)) (bytes : List ℕ) (a b : Answer) (c d : Command) → IsWordOf c words → IsWordOf d words → IsAnswerOf c bytes a → IsAnswerOf d bytes b → a ≡ b
+command_once words bytes a b Replay Replay v w x y = x ∙ sym y
+command_once words bytes a b Replay Check v w x y = two_words words v w
+command_once words bytes a b Check Replay v w x y = two_words words w v
+command_once words bytes a b Check Check v w x y = check_once bytes a b x y
+
+pub one_answer : OneAnswer
+one_answer words bytes a b (Of c v x) (Of d w y) = command_once words bytes a b c d v w x y
+one_answer words bytes a b (Of c v x) (Other none y) = absurd (none (c, v))
+one_answer words bytes a b (Other none x) (Of c v y) = absurd (none (c, v))
+one_answer words bytes a b (Other none x) (Other never y) = x ∙ sym y
