@@ -27,7 +27,7 @@ use Rattle.sv_tool.specs.declared.words.Command.{Command}
 use Rattle.sv_tool.specs.declared.words.Command.TheVariants.{Replay, Check}
 use Rattle.sv_tool.specs.Answer.{Answer}
 use Rattle.sv_tool.specs.CheckText.{AreWhole, AreBehind, AreAccepted, IsLater, Unaccepted, InParts, IsRefusalBehind, UnreadTxns, Later, IsRefusal, Unread, Behind, sizes_of, IsDocument, code_of, accepted_with, refused_with, IsCheckAnswer, Accepts, Long, Faulty, Refuses}
-use Rattle.sv_tool.specs.Commands.{IsWordOf, IsAnswerOf, IsAnswer, Of, Other}
+use Rattle.sv_tool.specs.Commands.{IsWordOf, IsAnswerOf, Of, Other}
 use Rattle.sv_tool.specs.Laws.{OneAnswer}
 use Rattle.sv_tool.proofs.CheckLaws.{tokens_of_document, no_document}
 
