@@ -137,6 +137,21 @@ fn verdict_text(alloc: Global, verdict: &Verdict) -> Result<Vec<u8>, NoMemory> {
     Ok(text)
 }
 
+/// The text of the verdict on the changes, over a store whose reads are noted or not.
+fn verdict_told(
+    alloc: Global,
+    trial: &Trial,
+    effects: &[RowEffect],
+    noted: bool,
+) -> Result<Vec<u8>, Trouble>
+    requires tables { AcceptedSchema (schema_of trial.now.app.tables.items) }
+    requires fits { AllFit (schema_of trial.now.app.tables.items) effects.now }
+    requires few { length effects.now ≤ 64 }
+{
+    let told = verdict(alloc, &trial.app, trial.init.items(), effects, noted)?;
+    Ok(verdict_text(alloc, &told)?)
+}
+
 fn verdict_lines(alloc: Global, trial: &Trial) -> Result<Vec<u8>, Trouble>
     requires whole { AcceptedApp (schema_of trial.now.app.tables.items) (transactions_of trial.now.app.txns.items) }
     requires tables { AcceptedSchema (schema_of trial.now.app.tables.items) }
@@ -145,11 +160,10 @@ fn verdict_lines(alloc: Global, trial: &Trial) -> Result<Vec<u8>, Trouble>
     let Outcome::Done(_) = ended.ran.outcome else {
         return Err(Trouble::Wrong("the run isn't done"));
     };
-    let ran = on_store(alloc, trial, false)?;
     let plain = verdict_text(alloc, &judge(&trial.app, &ended.rows))?;
-    let (app, init, effects) = (&trial.app, trial.init.items(), ran.effects.items());
-    let stored = verdict_text(alloc, &verdict(alloc, app, init, effects, false)?)?;
-    let noted = verdict_text(alloc, &verdict(alloc, app, init, effects, true)?)?;
+    let ran = on_store(alloc, trial, false)?;
+    let stored = verdict_told(alloc, trial, ran.effects.items(), false)?;
+    let noted = verdict_told(alloc, trial, ran.effects.items(), true)?;
     Ok(lines(alloc, &plain, [&stored, &noted])?)
 }
 
