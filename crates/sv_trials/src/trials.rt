@@ -84,27 +84,52 @@ fn on_store(alloc: Global, trial: &Trial, noted: bool) -> Result<Ran, Trouble>
     }
 }
 
-/// The verdict on the changes, over a store of the initial rows, whose reads are noted or not.
-fn verdict(
+/// The verdict on the changes, over these rows.
+fn judged<R: Rows>(
     alloc: Global,
     app: &App,
-    init: &[InitRow],
     effects: &[RowEffect],
-    noted: bool,
+    rows: &mut R,
 ) -> Result<Verdict, Trouble>
     requires tables { AcceptedSchema (schema_of app.now.tables.items) }
+    requires rows { R.is_of rows.old (schema_of app.now.tables.items) }
     requires fits { AllFit (schema_of app.now.tables.items) effects.now }
     requires few { length effects.now ≤ 64 }
 {
-    let mut store = store(alloc, app, init)?;
-    let verdict = if noted {
-        check_after(alloc, app, effects, &mut Noted::new(alloc, &mut store))
-    } else {
-        check_after(alloc, app, effects, &mut store)
-    };
-    match verdict {
+    match check_after(alloc, app, effects, rows) {
         Ok(verdict) => Ok(verdict),
         Err(_) => Err(Trouble::Wrong("no verdict")),
+    }
+}
+
+/// The same, over these rows with their reads noted.
+fn judged_by_notes<R: Rows>(
+    alloc: Global,
+    app: &App,
+    effects: &[RowEffect],
+    rows: &mut R,
+) -> Result<Verdict, Trouble>
+    requires tables { AcceptedSchema (schema_of app.now.tables.items) }
+    requires rows { R.is_of rows.old (schema_of app.now.tables.items) }
+    requires fits { AllFit (schema_of app.now.tables.items) effects.now }
+    requires few { length effects.now ≤ 64 }
+{
+    let mut noted = Noted::new(alloc, rows);
+    judged(alloc, app, effects, &mut noted)
+}
+
+/// The verdict on the changes of a run, over a store of the initial rows, whose reads are noted or not.
+fn verdict(alloc: Global, trial: &Trial, ran: &Ran, noted: bool) -> Result<Verdict, Trouble>
+    requires tables { AcceptedSchema (schema_of trial.now.app.tables.items) }
+    requires fits { AllFit (schema_of trial.now.app.tables.items) ran.now.effects }
+    requires few { length ran.now.effects ≤ 64 }
+{
+    let Trial { app, init, .. } = trial;
+    let mut store = store(alloc, app, init.items())?;
+    if noted {
+        judged_by_notes(alloc, app, ran.effects.items(), &mut store)
+    } else {
+        judged(alloc, app, ran.effects.items(), &mut store)
     }
 }
 
@@ -137,19 +162,16 @@ fn verdict_text(alloc: Global, verdict: &Verdict) -> Result<Vec<u8>, NoMemory> {
     Ok(text)
 }
 
-/// The text of the verdict on the changes, over a store whose reads are noted or not.
-fn verdict_told(
-    alloc: Global,
-    trial: &Trial,
-    effects: &[RowEffect],
-    noted: bool,
-) -> Result<Vec<u8>, Trouble>
+/// The text of the verdict.
+fn verdict_told(alloc: Global, trial: &Trial, ran: &Ran, noted: bool) -> Result<Vec<u8>, Trouble>
     requires tables { AcceptedSchema (schema_of trial.now.app.tables.items) }
-    requires fits { AllFit (schema_of trial.now.app.tables.items) effects.now }
-    requires few { length effects.now ≤ 64 }
+    requires fits { AllFit (schema_of trial.now.app.tables.items) ran.now.effects }
+    requires few { length ran.now.effects ≤ 64 }
 {
-    let told = verdict(alloc, &trial.app, trial.init.items(), effects, noted)?;
-    Ok(verdict_text(alloc, &told)?)
+    match verdict(alloc, trial, ran, noted) {
+        Ok(told) => Ok(verdict_text(alloc, &told)?),
+        Err(trouble) => Err(trouble),
+    }
 }
 
 fn verdict_lines(alloc: Global, trial: &Trial) -> Result<Vec<u8>, Trouble>
@@ -162,8 +184,8 @@ fn verdict_lines(alloc: Global, trial: &Trial) -> Result<Vec<u8>, Trouble>
     };
     let plain = verdict_text(alloc, &judge(&trial.app, &ended.rows))?;
     let ran = on_store(alloc, trial, false)?;
-    let stored = verdict_told(alloc, trial, ran.effects.items(), false)?;
-    let noted = verdict_told(alloc, trial, ran.effects.items(), true)?;
+    let stored = verdict_told(alloc, trial, &ran, false)?;
+    let noted = verdict_told(alloc, trial, &ran, true)?;
     Ok(lines(alloc, &plain, [&stored, &noted])?)
 }
 
