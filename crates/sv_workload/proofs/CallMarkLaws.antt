@@ -61,13 +61,13 @@ fit_arg types.Text (args.Ints ns) is = absurd is
 fit_arg types.Ints (args.Int n) is = absurd is
 fit_arg types.Ints (args.Text t) is = absurd is
 
-args_fitting : (params : List (Ident × Ty)) (passed : List Arg) → args_fit params passed ≡ true → ArgsFit params passed
+pub args_fitting : (params : List (Ident × Ty)) (passed : List Arg) → args_fit params passed ≡ true → ArgsFit params passed
 args_fitting [] [] e = tt
 args_fitting [] (a ∷ passed) e = absurd cc
 args_fitting (p ∷ ps) [] e = absurd cc
 args_fitting (p ∷ ps) (a ∷ passed) e = let both = both_true (arg_fits p.1 a) (args_fit ps passed) e in (arg_fit p.1 a both.0, args_fitting ps passed both.1)
 
-fitting_args : (params : List (Ident × Ty)) (passed : List Arg) → ArgsFit params passed → args_fit params passed ≡ true
+pub fitting_args : (params : List (Ident × Ty)) (passed : List Arg) → ArgsFit params passed → args_fit params passed ≡ true
 fitting_args [] [] is = refl
 fitting_args [] (a ∷ passed) is = absurd is
 fitting_args (p ∷ ps) [] is = absurd is

@@ -38,7 +38,7 @@ module _ (schema : List Declaration) (tokens : List Token) (rows : List InitRow)
           let took = (init_judged schema tokens).took rows rest read in
           record { written = took.rows; rest = rest; is = read; are = took.are; right = (init_judged schema tokens).right rows rest read; made = took.made; count = is.1 }
 
-  good : (written : List Row) (rest : List Token) → AreInit tokens written rest → AreNone (InitRefused schema tokens) → GoodFrom schema [] written
+  pub good : (written : List Row) (rest : List Token) → AreInit tokens written rest → AreNone (InitRefused schema tokens) → GoodFrom schema [] written
   good _ _ (NoInit begins) right = tt
   good _ _ (Init written front rest whole is ends) right =
       good_from schema [] written (is.back ++ rest) is.back rest refl is.then

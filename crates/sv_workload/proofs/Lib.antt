@@ -32,3 +32,4 @@ pub mod NumberMarkLaws
 pub mod OnceLaws
 pub mod LineMarkLaws
 pub mod LineTurnLaws
+pub mod PartsFitLaws

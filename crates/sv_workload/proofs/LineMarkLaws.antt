@@ -91,7 +91,7 @@ any_word bytes has = by_place has.0 has.1 has.2
     by_place (suc (suc (suc (suc (suc (suc zero)))))) lt e = (verbs.Cut, sym e)
     by_place (suc (suc (suc (suc (suc (suc (suc k))))))) lt e = absurd (omega (arith, lt))
 
-word_any : (v : Verb) → Contains (session_words ++ site_words) (verb_word v)
+pub word_any : (v : Verb) → Contains (session_words ++ site_words) (verb_word v)
 word_any verbs.Ask = (0, omega arith, refl)
 word_any verbs.Order = (1, omega arith, refl)
 word_any verbs.Deliver = (2, omega arith, refl)
@@ -147,7 +147,7 @@ module _ (schema : List Declaration) (txns : List Transaction) where
   asks_same (Show n t) = refl
   asks_same (Cut n) = refl
 
-  shows_same : (l : Line) → shows l ≡ step_shows (step_of schema txns l)
+  pub shows_same : (l : Line) → shows l ≡ step_shows (step_of schema txns l)
   shows_same (Ask n c) = refl
   shows_same (Order n) = refl
   shows_same (Deliver n p) = refl

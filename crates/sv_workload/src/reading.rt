@@ -8,6 +8,7 @@ ghost use Rattle.sv_reader.specs.Reading.{Reads};
 ghost use Rattle.sv_workload.specs.declared.parts.Parts.{Parts as AnyParts};
 ghost use Rattle.sv_workload.specs.declared.parts.Work.TheVariants.{Nothing};
 ghost use Rattle.sv_workload.specs.Documents.{AreParts, IsRefused, IsAnswer};
+ghost use Rattle.sv_workload.specs.PartsFit.{PartsFit};
 ghost use Rattle.sv_workload.specs.Reading.{IsBounded};
 ghost use Rattle.sv_workload.specs.Stops.{sites_in, work_from, last_from, set_parts, LastKept, LastStops};
 
@@ -175,6 +176,8 @@ pub fn read_parts(
     requires place { at ≤ length tokens.now }
     // what is read are the parts that stand there, and nothing of them is refused
     ensures read { IfOk result (λ parts. AreParts (schema_of app.now.tables.items) (transactions_of app.now.txns.items) (drop at tokens.now) parts) }
+    // their rows and requests fit the application, and nothing passes its limit
+    ensures fit { IfOk result (λ parts. PartsFit (schema_of app.now.tables.items) (transactions_of app.now.txns.items) parts) }
     // such parts are read, unless there is no memory
     ensures all { (parts : AnyParts) → AreParts (schema_of app.now.tables.items) (transactions_of app.now.txns.items) (drop at tokens.now) parts → IsAnswer result parts }
     // the refusal is the first one
