@@ -1,5 +1,6 @@
 -- What is refused of a call besides the grammar.
 use Rattle.std.proofs.Common.{◌≡◌, ◌∙◌, ℕ, ℤ, pos, zero, suc, ◌<◌, ◌≤◌, ◌⊎◌, inl, inr, Bool, true, false, ◌&&◌, if◌then◌else◌, List, [], ◌∷◌, ◌++◌, length, Option, Some, None, Ok, Err, refl, sym, ap, subst, append_assoc, append-nil, arith}
+use Rattle.std.proofs.Math.Nat.{eq-or-lt_of_le}
 use Rattle.std.proofs.lemmas.List.{length-append}
 use Rattle.sv_lex.specs.declared.marks.Mark.TheVariants.{LeftParen, RightParen, LeftBracket, Comma}
 use Rattle.sv_lex.specs.declared.tokens.Token.{Token}
@@ -31,7 +32,7 @@ use Rattle.sv_workload.specs.InitRefused.{BeginsName}
 use Rattle.sv_workload.specs.LastRefused.{each_comma, BeginsInteger, IsInList, CallRefused, NoTxn, Unfit, LongList}
 use Rattle.sv_workload.specs.Reading.{arg_fits, args_fit, txn_named, txn_meant, call_code, opening_at, long_call, long_args, long_among, long_fault, call_mark, call_at, from_read, at_front}
 use Rattle.sv_workload.proofs.CallLaws.{call_law, argument_law}
-use Rattle.sv_workload.proofs.LongLaws.{InArgs, args_in, FirstLong, first_args, argument_begins, integer_split, Taken, taken, taken_some}
+use Rattle.sv_workload.proofs.LongLaws.{joined_to, InArgs, args_in, FirstLong, first_args, argument_begins, integer_split, Taken, taken, taken_some}
 use Rattle.sv_workload.proofs.MarkLaws.{FirstMark, Marks, Before, marks_or, marks_map}
 use Rattle.sv_workload.proofs.RowLaws.{both_true, true_both}
 use Rattle.sv_workload.proofs.ValueLaws.{head_same}
@@ -78,40 +79,6 @@ opening_law : Plain bare anything (λ txn. name txn · mark LeftParen) opening_a
 opening_law = same_plain (take_plain (λ txn (last : Unit {0}). txn) (name_law bare anything) (λ txn. skip_last bare anything (Mark LeftParen) txn))
     (λ txn l m. subst (λ x. (name x · mark LeftParen) l) (sym m.made) m.is) (λ txn l is. record { «from» = (txn, tt); is = is; made = refl })
 
--- arguments and the beginning of another one
-
-args_joined : (passed : List Arg) (a : Arg) (front back : List Token) → each_comma argument passed front → argument a back → listed argument (passed ++ a ∷ []) (front ++ back)
-args_joined [] a front back are is = record { front = back; back = []; whole = ap (λ l. l ++ back) are ∙ sym (append-nil back); first = is; then = refl }
-args_joined (x ∷ xs) a front back are is = record {
-  front = are.front;
-  back = are.back ++ back;
-  whole = ap (λ l. l ++ back) are.whole ∙ append_assoc are.front are.back back;
-  first = are.first;
-  then = behind xs are.back are.then;
-}
-  where
-    behind : (xs : List Arg) (l : List Token) → (mark Comma · each_comma argument xs) l → others argument (xs ++ a ∷ []) (l ++ back)
-    behind [] l b = record {
-      front = b.front;
-      back = back ++ [];
-      whole = ap (λ y. y ++ back) (b.whole ∙ ap (λ y. b.front ++ y) b.then ∙ append-nil b.front) ∙ ap (λ y. b.front ++ y) (sym (append-nil back));
-      first = b.first;
-      then = record { front = back; back = []; whole = refl; first = is; then = refl };
-    }
-    behind (y ∷ ys) l b = record {
-      front = b.front;
-      back = b.back ++ back;
-      whole = ap (λ x. x ++ back) b.whole ∙ append_assoc b.front b.back back;
-      first = b.first;
-      then = record {
-        front = b.then.front;
-        back = b.then.back ++ back;
-        whole = ap (λ x. x ++ back) b.then.whole ∙ append_assoc b.then.front b.then.back back;
-        first = b.then.first;
-        then = behind ys b.then.back b.then.then;
-      };
-    }
-
 -- a call may begin with its opening, arguments, and what an argument may begin with
 call_begins : (txn : Ident) (passed : List Arg) (opening middle part : List Token) → (name txn · mark LeftParen) opening → each_comma argument passed middle → Begins argument part → Begins call (opening ++ (middle ++ part))
 call_begins txn passed opening middle part o m b = record {
@@ -133,7 +100,7 @@ call_begins txn passed opening middle part o m b = record {
         front = middle ++ (part ++ b.more);
         back = token_of (Mark RightParen) ∷ [];
         whole = refl;
-        first = args_joined passed b.item middle (part ++ b.more) m b.is;
+        first = joined_to argument passed b.item middle (part ++ b.more) m b.is;
         then = record { token = token_of (Mark RightParen); only = refl; holds = refl };
       };
     };
@@ -253,18 +220,8 @@ long_marks tokens = by_call (long_call tokens) refl
                 joined : o.opening ++ (o.inside.are.front ++ (inner.first.token ∷ inner.back ++ p.0 ∷ [])) ≡ o.opening ++ o.inside.front ++ p.0 ∷ []
                 joined = ap (λ l. o.opening ++ l) (sym (append_assoc o.inside.are.front (inner.first.token ∷ inner.back) (p.0 ∷ [])) ∙ ap (λ l. l ++ p.0 ∷ []) (sym inside_whole)) ∙ sym (append_assoc o.opening o.inside.front (p.0 ∷ []))
 
-                near : (m n : ℕ) → m ≤ n → (m < n) ⊎ (m ≡ n)
-                near zero zero le = inr refl
-                near zero (suc n) le = inl (omega arith)
-                near (suc m) zero le = absurd (omega (arith, le))
-                near (suc m) (suc n) le = by_near (near m n (omega (arith, le)))
-                  where
-                    by_near : (m < n) ⊎ (m ≡ n) → (suc m < suc n) ⊎ (suc m ≡ suc n)
-                    by_near (inl lt) = inl (omega (arith, lt))
-                    by_near (inr s) = inr (ap suc s)
-
                 by_there : (other : Code) (there : List Token) → LongAt tokens other there → (length there < length (p.0 ∷ p.1)) ⊎ ((length there ≡ length (p.0 ∷ p.1)) × (number_of Many ≤ number_of other))
-                by_there other there is = by_order (near (length there) (length (p.0 ∷ p.1)) (omega (arith, f.low, ap length same, ap length p.2)))
+                by_there other there is = by_order (eq-or-lt_of_le (omega (arith, f.low, ap length same, ap length p.2)))
                   where
                     f : Finds tokens there
                     f = finds tokens there (list_opened tokens there is.1)
@@ -272,9 +229,9 @@ long_marks tokens = by_call (long_call tokens) refl
                     same : f.here ≡ here
                     same = let e' : Some f.here ≡ Some here = sym f.is ∙ e in cc
 
-                    by_order : (length there < length (p.0 ∷ p.1)) ⊎ (length there ≡ length (p.0 ∷ p.1)) → (length there < length (p.0 ∷ p.1)) ⊎ ((length there ≡ length (p.0 ∷ p.1)) × (number_of Many ≤ number_of other))
-                    by_order (inl lt) = inl lt
-                    by_order (inr s) = inr (s, subst (λ c. 6 ≤ number_of c) (sym is.0) (omega arith))
+                    by_order : (length there ≡ length (p.0 ∷ p.1)) ⊎ (length there < length (p.0 ∷ p.1)) → (length there < length (p.0 ∷ p.1)) ⊎ ((length there ≡ length (p.0 ∷ p.1)) × (number_of Many ≤ number_of other))
+                    by_order (inr lt) = inl lt
+                    by_order (inl s) = inr (s, subst (λ c. 6 ≤ number_of c) (sym is.0) (omega arith))
 
 -- what is wrong where a call begins
 

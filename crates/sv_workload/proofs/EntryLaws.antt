@@ -1,5 +1,6 @@
 -- The calls of a session: what is refused of a call besides the grammar, and that the loop judges all of them.
 use Rattle.std.proofs.Common.{◌≡◌, ◌∙◌, ℕ, zero, suc, ◌+◌, ◌<◌, ◌≤◌, ◌⊎◌, inl, inr, nat_le, nat_lt, Bool, true, false, if◌then◌else◌, List, [], ◌∷◌, ◌++◌, length, map, Option, Some, None, Ok, refl, sym, ap, subst, append_assoc, arith}
+use Rattle.std.proofs.Math.Nat.{eq-or-lt_of_le}
 use Rattle.std.proofs.lemmas.Bool.Decides.{nat_tests}
 use Rattle.std.proofs.lemmas.List.{length-append, length-map}
 use Rattle.sv_lex.specs.declared.marks.Mark.TheVariants.{Semi}
@@ -40,16 +41,6 @@ entry_law = same_plain (take_plain entry_made call_law (λ c. skip_last bare any
     (λ c l m. subst (λ x. entry x l) (sym m.made) m.is) (λ c l is. record { «from» = (c, tt); is = is; made = refl })
 
 -- the earlier of two marks
-
-near : (m n : ℕ) → m ≤ n → (m < n) ⊎ (m ≡ n)
-near zero zero le = inr refl
-near zero (suc n) le = inl (omega arith)
-near (suc m) zero le = absurd (omega (arith, le))
-near (suc m) (suc n) le = by_near (near m n (omega (arith, le)))
-  where
-    by_near : (m < n) ⊎ (m ≡ n) → (suc m < suc n) ⊎ (suc m ≡ suc n)
-    by_near (inl lt) = inl (omega (arith, lt))
-    by_near (inr e) = inr (ap suc e)
 
 abbrev Any : Refusals → Refusals → Refusals
 Any m n code here = m code here ⊎ n code here
@@ -123,11 +114,11 @@ module _ {A : Type 0} {P : A → List Token → Type 0} {tokens : List Token} {m
       one x first = record { none = λ e. absurd cc; some = λ y e. let same : x ≡ y = cc in subst (λ z. FirstMark P tokens (Any m n) z) same first; within = marks_within a b }
 
       under : g.left ≤ f.left → (g.left < f.left) ⊎ ((g.left ≡ f.left) × (number_of f.code ≤ number_of g.code))
-      under le = by_near (near g.left f.left le)
+      under le = by_near (eq-or-lt_of_le le)
         where
-          by_near : (g.left < f.left) ⊎ (g.left ≡ f.left) → (g.left < f.left) ⊎ ((g.left ≡ f.left) × (number_of f.code ≤ number_of g.code))
-          by_near (inl lt) = inl lt
-          by_near (inr same) = inr (same, tie f g refl refl (sym same))
+          by_near : (g.left ≡ f.left) ⊎ (g.left < f.left) → (g.left < f.left) ⊎ ((g.left ≡ f.left) × (number_of f.code ≤ number_of g.code))
+          by_near (inr lt) = inl lt
+          by_near (inl same) = inr (same, tie f g refl refl (sym same))
 
       by_test : (t : Bool) → nat_lt f.left g.left ≡ t → Marks P tokens (Any m n) (if t then Some g else Some f)
       by_test true t = one g (first_right g (b.some g refl) (λ other there is. low_under g f other there (inl (grind (arith, nat_tests, t))) (low_of f (a.some f refl) other there is)))

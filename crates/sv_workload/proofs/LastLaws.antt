@@ -1,5 +1,6 @@
 -- The head and the settings of a last part: where they are refused, and that no step and no session begins a setting.
 use Rattle.std.proofs.Common.{◌≡◌, ◌≢◌, ◌∙◌, ℕ, zero, suc, ◌<◌, ◌≤◌, ◌⊎◌, inl, inr, false, List, [], ◌∷◌, ◌++◌, length, Option, Some, None, Err, refl, sym, ap, subst, append_assoc, arith, codes}
+use Rattle.std.proofs.Math.Nat.{eq-or-lt_of_le}
 use Rattle.std.proofs.lemmas.List.{length-append}
 use Rattle.sv_lex.specs.declared.tokens.Token.{Token}
 use Rattle.sv_lex.specs.declared.tokens.TokenKind.TheVariants.{Name}
@@ -167,27 +168,17 @@ module _ (schema : List Declaration) (txns : List Transaction) (count : ℕ) (to
           Behind' : Code → List Token → Type 0
           Behind' code there = (length there < length found.here) ⊎ ((length there ≡ length found.here) × (number_of fault.code ≤ number_of code))
 
-          near : (m n : ℕ) → m ≤ n → (m < n) ⊎ (m ≡ n)
-          near zero zero le = inr refl
-          near zero (suc n) le = inl (omega arith)
-          near (suc m) zero le = absurd (omega (arith, le))
-          near (suc m) (suc n) le = by_near (near m n (omega (arith, le)))
-            where
-              by_near : (m < n) ⊎ (m ≡ n) → (suc m < suc n) ⊎ (suc m ≡ suc n)
-              by_near (inl lt) = inl (omega (arith, lt))
-              by_near (inr e) = inr (ap suc e)
-
           later : (code : Code) (there rest : List Token) (head : PartHead) (settings : List (Setting × ℕ)) → Through head settings rest → length there ≤ length rest → Behind' code there
           later code there rest head settings t low = by_sites (last.given Sites settings) refl
             where
-              by_place : (length rest < length found.here) ⊎ ((length rest ≡ length found.here) × (number_of fault.code ≤ 1)) → (length there < length rest) ⊎ (length there ≡ length rest) → Behind' code there
+              by_place : (length rest < length found.here) ⊎ ((length rest ≡ length found.here) × (number_of fault.code ≤ 1)) → (length there ≡ length rest) ⊎ (length there < length rest) → Behind' code there
               by_place (inl lt) order = inl (omega (arith, low, lt))
-              by_place (inr same) (inl lt) = inl (omega (arith, lt, same.0))
-              by_place (inr same) (inr e) = inr (e ∙ same.0, omega (arith, same.1, code_some code))
+              by_place (inr same) (inr lt) = inl (omega (arith, lt, same.0))
+              by_place (inr same) (inl e) = inr (e ∙ same.0, omega (arith, same.1, code_some code))
 
               by_sites : (n : Option ℕ) → last.given Sites settings ≡ n → Behind' code there
               by_sites (Some n) e = let lt = found.inside (head, state settings) rest (sited head settings rest n t e) in inl (omega (arith, low, lt))
-              by_sites None e = by_place (found.first.first Syntax rest (siteless head settings rest t e)) (near (length there) (length rest) low)
+              by_sites None e = by_place (found.first.first Syntax rest (siteless head settings rest t e)) (eq-or-lt_of_le low)
 
           low_of : (rest there : List Token) → Suffix rest there → length there ≤ length rest
           low_of rest there s = omega (arith, ap length s.whole, length-append s.front there)

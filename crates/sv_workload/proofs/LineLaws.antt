@@ -10,7 +10,7 @@ use Rattle.sv_reader.specs.Grammar.{Both, ◌·◌, kind, word, mark, name}
 use Rattle.sv_reader.specs.Reading.{Read, ◌>>=◌, by_word, token_at, name_at}
 use Rattle.sv_reader.proofs.KindLaws.{token_of}
 use Rattle.sv_reader.proofs.MadeLaws.{Made, take_last, take_plain, skip_last}
-use Rattle.sv_reader.proofs.PartLaws.{name_law}
+use Rattle.sv_reader.proofs.PartLaws.{chosen, name_law}
 use Rattle.sv_reader.proofs.AnswerLaws.{anything}
 use Rattle.sv_reader.proofs.ReadLaws.{Plain, Means, leaf, Then, follow, same_plain}
 use Rattle.sv_workload.specs.declared.written.Call.{Call}
@@ -24,14 +24,6 @@ use Rattle.sv_workload.specs.Written.{Sent, Blue, Red, Line, Ask, Order, Deliver
 use Rattle.sv_workload.proofs.CallLaws.{call_law}
 use Rattle.sv_workload.proofs.SettingLaws.{count_law}
 use Rattle.sv_reader.proofs.MatterLaws.{bare}
-
-chosen : {A : Type 0} (written wanted : List ℕ) (a : A) (others : Option A) (x : A) (P : A → Type 0) → (written ≡ wanted → P a) → (others ≡ Some x → P x)
-    → (if bytes_eq written wanted then Some a else others) ≡ Some x → P x
-chosen {A} written wanted a others x P here more e = by_test (bytes_eq written wanted) refl e
-  where
-    by_test : (b : Bool) → bytes_eq written wanted ≡ b → cond b (Some a) others ≡ Some x → P x
-    by_test true t e = let same : a ≡ x = cc in subst P same (here ((bytes_eq-Decides written wanted).0 t))
-    by_test false t e = more e
 
 pub named : {A : Type 0} (meaning : List ℕ → Option A) (spelled : A → List ℕ) → ((bytes : List ℕ) (a : A) → meaning bytes ≡ Some a → bytes ≡ spelled a)
     → (k : TokenKind) (a : A) → by_word meaning k ≡ Some a → k ≡ Name (spelled a)

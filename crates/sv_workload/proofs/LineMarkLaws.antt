@@ -129,14 +129,15 @@ part_begins P token found v n made w k tail l b = record {
       (record { front = l ++ b.more; back = token_of (Mark Semi) ∷ []; whole = sym (append_assoc l b.more (token_of (Mark Semi) ∷ [])); first = b.is; then = record { token = token_of (Mark Semi); only = refl; holds = refl } }));
 }
 
+-- one more is counted
+pub total_more : {A : Type 0} (count : A → ℕ) (before : List A) (a : A) → total count (before ++ a ∷ []) ≡ total count before + count a
+total_more count [] a = omega arith
+total_more count (x ∷ before) a = let more = total_more count before a in omega (arith, more)
+
 module _ (schema : List Declaration) (txns : List Transaction) where
   -- the steps that were read, and how many of them ask or show
   abbrev pub state : List Line → Steps
   state before = record { steps = map (step_of schema txns) before; asks = total asks before; shows = total shows before }
-
-  total_push : (count : Line → ℕ) (before : List Line) (l : Line) → total count (before ++ l ∷ []) ≡ total count before + count l
-  total_push count [] l = omega arith
-  total_push count (x ∷ before) l = let more = total_push count before l in omega (arith, more)
 
   asks_same : (l : Line) → asks l ≡ step_asks (step_of schema txns l)
   asks_same (Ask n c) = refl
@@ -162,8 +163,8 @@ module _ (schema : List Declaration) (txns : List Transaction) where
   pub state_push : (before : List Line) (l : Line) → state (before ++ l ∷ []) ≡ with_line (state before) l
   state_push before l = λ i. record {
     steps = map-append (step_of schema txns) before (l ∷ []) i;
-    asks = (total_push asks before l ∙ ap (λ n. total asks before + n) (asks_same l)) i;
-    shows = (total_push shows before l ∙ ap (λ n. total shows before + n) (shows_same l)) i;
+    asks = (total_more asks before l ∙ ap (λ n. total asks before + n) (asks_same l)) i;
+    shows = (total_more shows before l ∙ ap (λ n. total shows before + n) (shows_same l)) i;
   }
 
   -- too many steps

@@ -107,9 +107,10 @@ list_in (suc count) tokens here e = by_taken (λ r e. list_in count r here e) (t
 
 -- an argument may begin with a list up to one more element
 
-integers_joined : (elements : List ℤ) (z : ℤ) (front back : List Token) → each_comma IsInteger elements front → IsInteger z back → listed IsInteger (elements ++ z ∷ []) (front ++ back)
-integers_joined [] z front back are is = record { front = back; back = []; whole = ap (λ l. l ++ back) are ∙ sym (append-nil back); first = is; then = refl }
-integers_joined (x ∷ xs) z front back are is = record {
+-- elements and commas, and one element more, are a list
+pub joined_to : {A : Type 0} (X : A → List Token → Type 0) (xs : List A) (a : A) (front back : List Token) → each_comma X xs front → X a back → listed X (xs ++ a ∷ []) (front ++ back)
+joined_to X [] a front back are is = record { front = back; back = []; whole = ap (λ l. l ++ back) are ∙ sym (append-nil back); first = is; then = refl }
+joined_to {A} X (x ∷ xs) a front back are is = record {
   front = are.front;
   back = are.back ++ back;
   whole = ap (λ l. l ++ back) are.whole ∙ append_assoc are.front are.back back;
@@ -117,7 +118,7 @@ integers_joined (x ∷ xs) z front back are is = record {
   then = behind xs are.back are.then;
 }
   where
-    behind : (xs : List ℤ) (l : List Token) → (mark Comma · each_comma IsInteger xs) l → others IsInteger (xs ++ z ∷ []) (l ++ back)
+    behind : (xs : List A) (l : List Token) → (mark Comma · each_comma X xs) l → others X (xs ++ a ∷ []) (l ++ back)
     behind [] l b = record {
       front = b.front;
       back = back ++ [];
@@ -155,7 +156,7 @@ argument_begins bracket token others' elements front k are (Sign sign) = record 
       front = front ++ (token ∷ zero_number ∷ []);
       back = token_of (Mark RightBracket) ∷ [];
       whole = refl;
-      first = integers_joined elements (neg_ℤ (pos 0)) front (token ∷ zero_number ∷ []) are (Negated 0 (token ∷ zero_number ∷ [])
+      first = joined_to IsInteger elements (neg_ℤ (pos 0)) front (token ∷ zero_number ∷ []) are (Negated 0 (token ∷ zero_number ∷ [])
           (record { front = token ∷ []; back = zero_number ∷ []; whole = refl; first = record { token = token; only = refl; holds = sign }; then = record { token = zero_number; only = refl; holds = refl } }));
       then = record { token = token_of (Mark RightBracket); only = refl; holds = refl };
     };
@@ -173,7 +174,7 @@ argument_begins bracket token others' elements front k are (PlainBegins n is) = 
       front = front ++ (token ∷ []);
       back = token_of (Mark RightBracket) ∷ [];
       whole = refl;
-      first = integers_joined elements (pos n) front (token ∷ []) are (PlainInteger n (token ∷ []) (record { token = token; only = refl; holds = is }));
+      first = joined_to IsInteger elements (pos n) front (token ∷ []) are (PlainInteger n (token ∷ []) (record { token = token; only = refl; holds = is }));
       then = record { token = token_of (Mark RightBracket); only = refl; holds = refl };
     };
   };

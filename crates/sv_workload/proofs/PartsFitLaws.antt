@@ -37,7 +37,7 @@ use Rattle.sv_workload.proofs.FrontLaws.{no_setting}
 use Rattle.sv_workload.proofs.KeptLaws.{good}
 use Rattle.sv_workload.proofs.LastLaws.{lines_unset, sessions_unset}
 use Rattle.sv_workload.proofs.LineLaws.{verb_word}
-use Rattle.sv_workload.proofs.LineMarkLaws.{word_any, shows_same}
+use Rattle.sv_workload.proofs.LineMarkLaws.{word_any, total_more, shows_same}
 
 below : (n most : ℕ) → (most ≤ n → ⊥) → n < most
 below n most none = by_test (nat_le most n) refl
@@ -45,10 +45,6 @@ below n most none = by_test (nat_le most n) refl
     by_test : (b : Bool) → nat_le most n ≡ b → n < most
     by_test true t = absurd (none (grind (arith, nat_tests, t)))
     by_test false t = grind (arith, nat_tests, t)
-
-total_more : {A : Type 0} (count : A → ℕ) (before : List A) (a : A) → total count (before ++ a ∷ []) ≡ total count before + count a
-total_more count [] a = omega arith
-total_more count (x ∷ before) a = let more = total_more count before a in omega (arith, more)
 
 total_ones : {A : Type 0} (xs : List A) → total (λ (a : A). 1) xs ≡ length xs
 total_ones [] = refl

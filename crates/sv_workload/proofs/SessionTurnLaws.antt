@@ -19,6 +19,7 @@ use Rattle.sv_workload.specs.LineReading.{is_more}
 use Rattle.sv_workload.specs.SessionReading.{entry_at, sooner, crowd_mark, entry_mark, entry_from, entries_from, requests_from, session_head_from, closed, session_from, session_requests, sessions_from}
 use Rattle.sv_workload.proofs.EntryLaws.{entry_shrinks, entry_steps}
 use Rattle.sv_reader.specs.Reading.{keep}
+use Rattle.sv_workload.proofs.LineMarkLaws.{total_more}
 use Rattle.sv_workload.proofs.LoopLaws.{more, fault, end}
 use Rattle.sv_workload.proofs.SessionLaws.{seen, session_shrinks, session_steps}
 use Rattle.sv_workload.proofs.TurnLaws.{before, before_err}
@@ -150,7 +151,6 @@ module _ (txns : List Transaction) where
   sessions_end sessions tokens t = end (session_steps txns) sessions tokens t
 
 pub total_push : (sessions : List (List Request)) (requests : List Request) → total length (sessions ++ requests ∷ []) ≡ total length sessions + length requests
-total_push [] requests = omega arith
-total_push (s ∷ sessions) requests = let more = total_push sessions requests in omega (arith, more)
+total_push sessions requests = total_more length sessions requests
 
 pub ruleset sessions = (sessions_more, sessions_less, sessions_err, sessions_end, total_push)

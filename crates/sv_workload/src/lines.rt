@@ -2,19 +2,19 @@ ghost use Rattle.std.specs.Prelude.{◌≡◌, ◌≤◌, length};
 ghost use Rattle.sv_app.specs.Schema.{schema_of};
 ghost use Rattle.sv_app.specs.Trees.{transactions_of};
 ghost use Rattle.sv_reader.specs.Reading.{Reads, token_at};
-ghost use Rattle.sv_workload.specs.Documents.{request_of, packet_of, step_of};
+ghost use Rattle.sv_workload.specs.Documents.{packet_of, step_of};
 ghost use Rattle.sv_workload.specs.LineReading.{sent_of, line_of, IsSite, IsBoundedPacket, IsBoundedLine};
 ghost use Rattle.sv_workload.specs.Reading.{verb_named, verb_of, color_of, packet_tail, packet_at, line_tail, line_at};
 ghost use Rattle.sv_workload.specs.Rows.{table_number};
 
-use crate::call_marks::txn_place;
 use crate::calls::call;
 use crate::parts::Step;
 use crate::rows::table_place;
+use crate::sessions::request_of;
 use crate::values::count;
 use crate::written::{Call, Color, Verb};
 use std::alloc::Global;
-use sv_app::{Ident, Request, Table, Txn};
+use sv_app::{Ident, Table, Txn};
 use sv_lex::{Mark, Token, TokenKind};
 use sv_reader::{ReadStop, Reader};
 use sv_value::{List, Packet, Site};
@@ -185,21 +185,6 @@ pub fn line(alloc: Global, reader: &mut Reader<'_>) -> Result<PlainStep, ReadSto
     let verb = verb(reader)?;
     let number = count(reader)?;
     line_tail(alloc, reader, verb, number)
-}
-
-/// The request that a call makes.
-fn request_of(txns: &[Txn], call: Call) -> Request
-    requires few { length txns.now ≤ 32 }
-    ensures { result ≡ request_of (transactions_of txns.now) call }
-{
-    let txn = match txn_place(txns, &call.txn) {
-        Some(place) => place,
-        None => 0,
-    };
-    Request {
-        txn: txn as u16,
-        args: call.args,
-    }
 }
 
 /// The site of this number.
