@@ -1,18 +1,17 @@
 -- Arguments and calls: each reading reads just the tokens that the grammar gives.
-use Rattle.std.proofs.Common.{◌≡◌, ◌∙◌, ℕ, ℤ, pos, Bool, true, false, List, [], ◌∷◌, ◌++◌, Ok, refl, sym, ap, subst, append_assoc}
+use Rattle.std.proofs.Common.{◌≡◌, ◌∙◌, ℤ, false, List, ◌++◌, refl, sym, ap, subst}
 use Rattle.sv_value.specs.declared.values.Val.{Val}
 use Rattle.sv_value.specs.declared.values.Val.TheVariants as vals
 use Rattle.sv_lex.specs.declared.marks.Mark.{Mark as IsMark}
-use Rattle.sv_lex.specs.declared.marks.Mark.TheVariants.{LeftParen, RightParen, LeftBracket, RightBracket, Comma, Minus}
+use Rattle.sv_lex.specs.declared.marks.Mark.TheVariants.{LeftParen, RightParen, LeftBracket, RightBracket, Minus}
 use Rattle.sv_lex.specs.declared.tokens.Token.{Token}
-use Rattle.sv_lex.specs.declared.tokens.TokenKind.{TokenKind}
-use Rattle.sv_lex.specs.declared.tokens.TokenKind.TheVariants.{Name, Number, Text, Mark}
+use Rattle.sv_lex.specs.declared.tokens.TokenKind.TheVariants.{Mark}
 use Rattle.sv_app.specs.declared.apps.Ident.{Ident}
 use Rattle.sv_app.specs.declared.requests.Arg.{Arg}
 use Rattle.sv_app.specs.declared.requests.Arg.TheVariants as args
-use Rattle.sv_reader.specs.Grammar.{Both, ◌·◌, kind, mark, name}
-use Rattle.sv_reader.specs.Reading.{Read, ◌>>=◌, is_kind, is_next, kind_at}
-use Rattle.sv_reader.proofs.MadeLaws.{Made, both_map, take_last, take_plain, skip_plain}
+use Rattle.sv_reader.specs.Grammar.{◌·◌, mark}
+use Rattle.sv_reader.specs.Reading.{is_kind, is_next}
+use Rattle.sv_reader.proofs.MadeLaws.{Made, take_last, take_plain, skip_plain}
 use Rattle.sv_reader.proofs.AnswerLaws.{next_alike}
 use Rattle.sv_reader.proofs.PartLaws.{kind_next, name_law}
 use Rattle.sv_reader.proofs.AnswerLaws.{anything}

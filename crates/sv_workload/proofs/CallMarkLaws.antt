@@ -1,8 +1,8 @@
 -- What is refused of a call besides the grammar.
-use Rattle.std.proofs.Common.{◌≡◌, ◌∙◌, ℕ, ℤ, pos, zero, suc, ◌<◌, ◌≤◌, ◌⊎◌, inl, inr, Bool, true, false, ◌&&◌, if◌then◌else◌, List, [], ◌∷◌, ◌++◌, length, Option, Some, None, Ok, Err, refl, sym, ap, subst, append_assoc, append-nil, arith}
+use Rattle.std.proofs.Common.{◌≡◌, ◌∙◌, suc, ◌<◌, ◌≤◌, ◌⊎◌, inl, inr, Bool, true, false, if◌then◌else◌, List, [], ◌∷◌, ◌++◌, length, Option, Some, None, Ok, Err, refl, sym, ap, subst, append_assoc, arith}
 use Rattle.std.proofs.Math.Nat.{eq-or-lt_of_le}
 use Rattle.std.proofs.lemmas.List.{length-append}
-use Rattle.sv_lex.specs.declared.marks.Mark.TheVariants.{LeftParen, RightParen, LeftBracket, Comma}
+use Rattle.sv_lex.specs.declared.marks.Mark.TheVariants.{LeftParen, RightParen, LeftBracket}
 use Rattle.sv_lex.specs.declared.tokens.Token.{Token}
 use Rattle.sv_lex.specs.declared.tokens.TokenKind.TheVariants.{Mark}
 use Rattle.sv_app.specs.declared.apps.Ident.{Ident}
@@ -15,10 +15,10 @@ use Rattle.sv_app.specs.declared.schemas.Ty.TheVariants as types
 use Rattle.sv_app.specs.Codes.{number_of}
 use Rattle.sv_app.specs.Trees.{Transaction}
 use Rattle.sv_reader.specs.declared.faults.ReadFault.{ReadFault}
-use Rattle.sv_reader.specs.Grammar.{Both, ◌·◌, kind, mark, name, IsName, others, separated}
-use Rattle.sv_reader.specs.Reading.{Read, ◌>>=◌, name_of, name_at}
+use Rattle.sv_reader.specs.Grammar.{◌·◌, mark, name, IsName}
+use Rattle.sv_reader.specs.Reading.{Read, name_of}
 use Rattle.sv_reader.proofs.KindLaws.{token_of}
-use Rattle.sv_reader.proofs.MadeLaws.{Made, take_plain, skip_last}
+use Rattle.sv_reader.proofs.MadeLaws.{take_plain, skip_last}
 use Rattle.sv_reader.proofs.PartLaws.{name_is, name_law}
 use Rattle.sv_reader.proofs.PartLaws as parts
 use Rattle.sv_reader.proofs.AnswerLaws.{anything, same_read}
@@ -27,12 +27,12 @@ use Rattle.sv_reader.proofs.PartLaws.{both_assoc, assoc_both}
 use Rattle.sv_workload.specs.declared.written.Call.{Call}
 use Rattle.sv_workload.specs.Elements.{Refusals, Begins}
 use Rattle.sv_workload.specs.Fits.{ArgFits, ArgsFit, CallFits, txn_of}
-use Rattle.sv_workload.specs.Grammar.{listed, IsInteger, argument, call}
+use Rattle.sv_workload.specs.Grammar.{IsInteger, argument, call}
 use Rattle.sv_workload.specs.InitRefused.{BeginsName}
 use Rattle.sv_workload.specs.LastRefused.{each_comma, BeginsInteger, IsInList, CallRefused, NoTxn, Unfit, LongList}
-use Rattle.sv_workload.specs.Reading.{arg_fits, args_fit, txn_named, txn_meant, call_code, opening_at, long_call, long_args, long_among, long_fault, call_mark, call_at, from_read, at_front}
-use Rattle.sv_workload.proofs.CallLaws.{call_law, argument_law}
-use Rattle.sv_workload.proofs.LongLaws.{joined_to, InArgs, args_in, FirstLong, first_args, argument_begins, integer_split, Taken, taken, taken_some}
+use Rattle.sv_workload.specs.Reading.{arg_fits, args_fit, txn_named, txn_meant, call_code, opening_at, long_call, long_args, long_among, long_fault, call_mark, call_at, at_front}
+use Rattle.sv_workload.proofs.CallLaws.{call_law}
+use Rattle.sv_workload.proofs.LongLaws.{joined_to, InArgs, args_in, first_args, argument_begins, integer_split, Taken, taken, taken_some}
 use Rattle.sv_workload.proofs.MarkLaws.{FirstMark, Marks, Before, marks_or, marks_map}
 use Rattle.sv_workload.proofs.RowLaws.{both_true, true_both}
 use Rattle.sv_workload.proofs.ValueLaws.{head_same}

@@ -1,5 +1,5 @@
 -- The parts of a document by what was read of them.
-use Rattle.std.proofs.Common.{◌≡◌, ◌≢◌, ◌∙◌, ℕ, ◌≤◌, ◌-◌, max, List, [], ◌∷◌, ◌++◌, length, drop, map, Some, slice_get, Ok, Err, refl, sym, ap, subst, append_assoc, arith}
+use Rattle.std.proofs.Common.{◌≡◌, ◌∙◌, ℕ, ◌-◌, max, List, [], ◌∷◌, ◌++◌, length, drop, map, Some, slice_get, Ok, Err, refl, sym, ap, subst, append_assoc, arith}
 use Rattle.std.specs.Prelude.{Result, IfOk}
 use Rattle.std.proofs.lemmas.List.{length-append, length-map}
 use Rattle.sv_value.specs.declared.spots.Spot.{Spot}
@@ -14,26 +14,21 @@ use Rattle.sv_app.specs.Trees.{Transaction}
 use Rattle.sv_app.specs.Valid.{Valid}
 use Rattle.sv_check.specs.Initial.{initial_tables}
 use Rattle.sv_check.specs.Initial as checked
-use Rattle.sv_reader.specs.declared.faults.ReadFault.{ReadFault}
-use Rattle.sv_reader.specs.Grammar.{◌·◌}
-use Rattle.sv_reader.specs.Reading.{Read, IsLeft}
 use Rattle.sv_reader.specs.Places.{spot_of}
 use Rattle.sv_workload.specs.declared.parts.Parts.{Parts}
 use Rattle.sv_workload.specs.declared.parts.Work.TheVariants as works
 use Rattle.sv_workload.specs.declared.written.PartHead.{PartHead}
 use Rattle.sv_workload.specs.declared.written.PartHead.TheVariants.{Replay as ReplayHead, Run as RunHead}
 use Rattle.sv_workload.specs.declared.written.Row.{Row}
-use Rattle.sv_workload.specs.Documents.{parts_of, AreRows, AreGood, AreParts, IsAnswer, IsRefused, InInit, ByInvariant}
-use Rattle.sv_workload.specs.Elements.{IsFirst, AreNone}
-use Rattle.sv_workload.specs.Grammar.{last_part, replay_head, run_head}
-use Rattle.sv_workload.specs.InitRefused.{InitRefused, AreInit, NoInit, Init}
+use Rattle.sv_workload.specs.Documents.{parts_of, AreGood, AreParts, IsAnswer, IsRefused, InInit, ByInvariant}
+use Rattle.sv_workload.specs.Elements.{AreNone}
+use Rattle.sv_workload.specs.Grammar.{last_part}
+use Rattle.sv_workload.specs.InitRefused.{AreInit}
 use Rattle.sv_workload.specs.LastRefused.{LastRefused, NoPart, InSettings, NoSites, InLines, InSessions, part_head}
-use Rattle.sv_workload.specs.Reading.{init_from}
 use Rattle.sv_workload.specs.Rows.{init_row}
-use Rattle.sv_workload.specs.Stops.{IsBad, InitStops, ByFault, ByRow, InitKept}
+use Rattle.sv_workload.specs.Stops.{InitStops, ByFault, ByRow, InitKept}
 use Rattle.sv_workload.specs.Written.{Last, Absent, Replay, Run}
 use Rattle.sv_workload.proofs.InitLaws.{InitRows, init_judged}
-use Rattle.sv_workload.proofs.JudgeLaws.{Found}
 use Rattle.sv_workload.proofs.KeptLaws.{Kept, kept}
 use Rattle.sv_workload.proofs.SuffixLaws.{init_suffix}
 

@@ -1,19 +1,17 @@
 -- Readings of elements that pass no limit: lists of them, and where they are misplaced.
-use Rattle.std.proofs.Common.{◌≡◌, ◌∙◌, ◌⊎◌, inl, inr, ◌<◌, ◌≤◌, Bool, true, false, List, [], ◌∷◌, ◌++◌, length, Ok, Err, refl, sym, ap, subst, append_assoc, append-nil, arith}
-use Rattle.std.proofs.lemmas.List.{length-append}
-use Rattle.sv_lex.specs.declared.marks.Mark.TheVariants.{RightParen, Comma}
+use Rattle.std.proofs.Common.{◌≡◌, ◌∙◌, ◌⊎◌, inl, inr, Bool, false, List, [], ◌∷◌, ◌++◌, length, Ok, Err, refl, sym, ap, subst, append_assoc, append-nil}
+use Rattle.sv_lex.specs.declared.marks.Mark.TheVariants.{Comma}
 use Rattle.sv_lex.specs.declared.tokens.Token.{Token}
 use Rattle.sv_lex.specs.declared.tokens.TokenKind.TheVariants.{Mark}
 use Rattle.sv_app.specs.declared.refusals.Code.TheVariants.{Syntax, Many}
 use Rattle.sv_reader.specs.declared.faults.ReadFault.{ReadFault}
-use Rattle.sv_reader.specs.Grammar.{Both, ◌·◌, mark, separated}
 use Rattle.sv_reader.specs.Reading.{Read, ◌>>=◌, refuse, list_at}
-use Rattle.sv_reader.proofs.ListLaws.{all_added, Listed, Rooms, Any, list, list_limited}
+use Rattle.sv_reader.proofs.ListLaws.{Listed, Rooms, Any, list, list_limited}
 use Rattle.sv_reader.proofs.AnswerLaws.{Alike, anything}
-use Rattle.sv_reader.proofs.ReadLaws.{Start, Stuck, Over, Lawful, Plain, Limited, limited, same_plain, none}
+use Rattle.sv_reader.proofs.ReadLaws.{Stuck, Over, Plain, Limited, limited, same_plain, none}
 use Rattle.sv_reader.proofs.StepLaws.{Stepping}
 use Rattle.sv_reader.proofs.ListLaws.{snoc, all_snoc}
-use Rattle.sv_workload.specs.Elements.{Begins, IsMisplaced}
+use Rattle.sv_workload.specs.Elements.{IsMisplaced}
 use Rattle.sv_reader.proofs.MatterLaws.{bare}
 
 -- what passes no limit in a language of which all is small

@@ -1,23 +1,22 @@
 -- Initial rows of which none is refused fit the schema, and no two stand at one place.
-use Rattle.std.proofs.Common.{◌≡◌, ◌≢◌, ◌∙◌, ℕ, zero, suc, ◌+◌, ◌<◌, ◌≤◌, ◌⊎◌, inl, inr, nat_le, ◌==◌, Bool, true, false, if◌then◌else◌, cond, List, [], ◌∷◌, ◌++◌, length, map, Option, Some, None, slice_get, refl, sym, ap, subst, append_assoc, append-nil, arith}
+use Rattle.std.proofs.Common.{◌≡◌, ◌∙◌, ℕ, zero, suc, ◌+◌, ◌<◌, ◌≤◌, nat_le, ◌==◌, Bool, true, false, if◌then◌else◌, List, [], ◌∷◌, ◌++◌, length, map, Option, Some, None, slice_get, refl, sym, ap, subst, append_assoc, arith}
 use Rattle.std.specs.List.{All, Contains, find, flat_map}
 use Rattle.std.specs.Option.{option_map, unwrap_or, is_none}
 use Rattle.std.proofs.lemmas.Bool.Decides.{nat_tests}
-use Rattle.std.proofs.lemmas.List.{length-append, length-map}
+use Rattle.std.proofs.lemmas.List.{length-append}
 use Rattle.std.proofs.lemmas.List.Elements.{All-cons, All-nil, Contains-push, Contains-append_left}
 use Rattle.sv_value.specs.declared.values.Val.{Val}
 use Rattle.sv_lex.specs.declared.tokens.Token.{Token}
 use Rattle.sv_app.specs.declared.apps.Ident.{Ident}
 use Rattle.sv_app.specs.declared.refusals.Code.TheVariants.{Unknown, Twice, Typing, Many}
-use Rattle.sv_app.specs.declared.requests.InitRow.{InitRow}
 use Rattle.sv_app.specs.declared.schemas.Column.{Column}
 use Rattle.sv_app.specs.Accepted.{AcceptedSchema}
 use Rattle.sv_app.specs.Conditions.{KeepsTable}
-use Rattle.sv_app.specs.Lookups.{is_named, column_of, table_of, place_of, table_names, column_names}
-use Rattle.sv_app.specs.Numbers.{numbered, numbered_in, numbered_table}
+use Rattle.sv_app.specs.Lookups.{is_named, column_of, table_of, place_of, column_names}
+use Rattle.sv_app.specs.Numbers.{numbered_in, numbered_table}
 use Rattle.sv_app.specs.Schema.{Declaration}
 use Rattle.sv_app.specs.Slots.{item}
-use Rattle.sv_app.specs.Typing.{fault_if, no_key, another_key, repeats, no_column, key_faults, column_faults, rule_faults, table_faults}
+use Rattle.sv_app.specs.Typing.{fault_if, no_key, another_key, repeats, no_column, key_faults, column_faults, rule_faults}
 use Rattle.sv_app.proofs.AcceptedLaws.{all_at, front_none, back_none, each_none, no_fault, table_right}
 use Rattle.sv_effect.specs.Fits.{HasType, KeyFits}
 use Rattle.sv_effect.specs.Initial.{ValuesFit, InitFits, AreDistinct}

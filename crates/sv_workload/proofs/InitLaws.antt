@@ -1,5 +1,5 @@
 -- The initial rows are judged.
-use Rattle.std.proofs.Common.{◌≡◌, ◌≢◌, ◌∙◌, ℕ, zero, suc, ◌<◌, ◌≤◌, ◌⊎◌, inl, inr, Bool, true, false, ◌&&◌, if◌then◌else◌, cond, List, [], ◌∷◌, ◌++◌, length, drop, map, Option, Some, None, Ok, Err, pos, refl, sym, ap, subst, append_assoc, append-nil, arith, codes}
+use Rattle.std.proofs.Common.{◌≡◌, ◌∙◌, ◌<◌, ◌≤◌, inr, Bool, true, false, if◌then◌else◌, List, [], ◌∷◌, ◌++◌, length, drop, map, Option, Some, None, Ok, pos, refl, sym, ap, subst, append_assoc, arith, codes}
 use Rattle.std.proofs.lemmas.List.{length-append}
 use Rattle.sv_lex.specs.declared.marks.Mark.TheVariants.{LeftParen, RightParen, Semi, Percents}
 use Rattle.sv_lex.specs.declared.tokens.Token.{Token}
@@ -7,29 +7,25 @@ use Rattle.sv_lex.specs.declared.tokens.TokenKind.TheVariants.{Name, Number, Mar
 use Rattle.sv_value.specs.declared.values.Val.TheVariants as vals
 use Rattle.sv_app.specs.declared.apps.Ident.{Ident}
 use Rattle.sv_app.specs.declared.refusals.Code.{Code}
-use Rattle.sv_app.specs.declared.refusals.Code.TheVariants.{Syntax, Unknown, Twice, Typing, Many}
 use Rattle.sv_app.specs.declared.requests.InitRow.{InitRow}
-use Rattle.sv_app.specs.Codes.{number_of}
 use Rattle.sv_app.specs.Schema.{Declaration}
 use Rattle.sv_reader.specs.declared.faults.ReadFault.{ReadFault}
-use Rattle.sv_reader.specs.Grammar.{Both, ◌·◌, IsName}
+use Rattle.sv_reader.specs.Grammar.{IsName}
 use Rattle.sv_reader.specs.Reading.{Read, is_kind, is_some, name_of, is_name}
 use Rattle.sv_reader.proofs.KindLaws.{token_of, kind_is, kind_same}
 use Rattle.sv_reader.proofs.PartLaws.{name_is, name_next}
 use Rattle.sv_reader.proofs.PartLaws as parts
 use Rattle.sv_reader.proofs.AnswerLaws.{same_read}
-use Rattle.sv_reader.proofs.ReadLaws.{Took}
 use Rattle.sv_workload.specs.declared.written.Row.{Row}
-use Rattle.sv_workload.specs.Elements.{Refusals, Begins, IsMisplaced, Among, IsFirst, AreNone}
-use Rattle.sv_workload.specs.Grammar.{many, row, init_head, init_part, Plain}
+use Rattle.sv_workload.specs.Elements.{Refusals, Begins, Among, AreNone}
+use Rattle.sv_workload.specs.Grammar.{many, row, init_head, Plain}
 use Rattle.sv_workload.specs.InitRefused.{BeginsName, BeginsRow, RowRefused, Misplaced as RowMisplaced, NoTable, Unfit, Repeated, TooMany, InitRefused, InRows, BeginsInit, AreInit, NoInit, Init}
 use Rattle.sv_workload.specs.Reading.{settled, at_front, row_code, table_meant, row_at, row_from, rows_from, begins_init, init_from}
 use Rattle.sv_workload.specs.Rows.{init_row}
 use Rattle.sv_workload.proofs.JudgeLaws.{Alike, Judged, judged_map}
-use Rattle.sv_reader.specs.Reading.{keep}
 use Rattle.sv_workload.proofs.LoopLaws.{Element, Elements, Steps, judged_loop}
 use Rattle.sv_workload.proofs.MarkLaws.{FirstMark, Marks, Standing, Mark, Misplaced, judged_marked}
-use Rattle.sv_workload.proofs.RowLaws.{Wrong, Nameless, Misfit, Again, Crowd, Lowest, Tells, tells, both_true, true_both}
+use Rattle.sv_workload.proofs.RowLaws.{Wrong, Nameless, Misfit, Again, Crowd, Tells, tells, both_true, true_both}
 use Rattle.sv_workload.proofs.ValueLaws.{row_law}
 
 -- the name at the front

@@ -1,14 +1,12 @@
 -- What it means that a reading judges tokens: it reads what stands there, or says which refusal is the first; and how such readings are put together.
-use Rattle.std.proofs.Common.{◌≡◌, ◌∙◌, ℕ, zero, suc, ◌<◌, ◌≤◌, ◌⊎◌, inl, inr, Bool, true, false, if◌then◌else◌, cond, List, [], ◌∷◌, ◌++◌, length, Ok, Err, refl, sym, ap, subst, append_assoc, append-nil, arith}
-use Rattle.std.proofs.lemmas.List.{length-append}
+use Rattle.std.proofs.Common.{◌≡◌, ◌∙◌, ◌<◌, ◌≤◌, ◌⊎◌, inl, inr, List, length, Ok, Err, refl, sym, subst, arith}
 use Rattle.sv_lex.specs.declared.tokens.Token.{Token}
 use Rattle.sv_app.specs.declared.refusals.Code.{Code}
 use Rattle.sv_app.specs.Codes.{number_of}
 use Rattle.sv_reader.specs.declared.faults.ReadFault.{ReadFault}
-use Rattle.sv_reader.specs.Reading.{Read, ◌>>=◌, turns_from, turns_at}
-use Rattle.sv_reader.proofs.AnswerLaws.{Bound, bound, bound_err, then_ok, then_err, same_read}
-use Rattle.sv_workload.specs.Elements.{Refusals, Among, Here, Behind, IsFirst, AreNone}
-use Rattle.sv_workload.specs.Grammar.{many}
+use Rattle.sv_reader.specs.Reading.{Read, ◌>>=◌}
+use Rattle.sv_reader.proofs.AnswerLaws.{Bound, bound, bound_err}
+use Rattle.sv_workload.specs.Elements.{Refusals, IsFirst, AreNone}
 
 -- what is read, and the tokens behind it
 abbrev pub Language : Type 0 → Type 1

@@ -1,5 +1,5 @@
 -- What is known of initial rows that were read.
-use Rattle.std.proofs.Common.{◌≡◌, ◌∙◌, ℕ, ◌≤◌, List, [], ◌∷◌, ◌++◌, length, map, Ok, Err, refl, sym, ap, subst, append_assoc, arith}
+use Rattle.std.proofs.Common.{◌≡◌, ◌∙◌, ℕ, ◌≤◌, List, [], ◌++◌, length, map, Ok, Err, refl, sym, ap, subst, append_assoc, arith}
 use Rattle.std.specs.List.{All}
 use Rattle.std.proofs.lemmas.List.{length-map}
 use Rattle.sv_lex.specs.declared.tokens.Token.{Token}
@@ -7,7 +7,6 @@ use Rattle.sv_app.specs.declared.requests.InitRow.{InitRow}
 use Rattle.sv_app.specs.Accepted.{AcceptedSchema}
 use Rattle.sv_app.specs.Schema.{Declaration}
 use Rattle.sv_effect.specs.Initial.{InitFits, AreDistinct}
-use Rattle.sv_reader.specs.declared.faults.ReadFault.{ReadFault}
 use Rattle.sv_reader.specs.Reading.{Read, IsLeft}
 use Rattle.sv_workload.specs.declared.written.Row.{Row}
 use Rattle.sv_workload.specs.Elements.{AreNone}
@@ -15,7 +14,7 @@ use Rattle.sv_workload.specs.InitRefused.{InitRefused, InRows, AreInit, NoInit, 
 use Rattle.sv_workload.specs.Reading.{init_from}
 use Rattle.sv_workload.specs.Rows.{init_row}
 use Rattle.sv_workload.proofs.FitLaws.{GoodFrom, good_from, all_fit, distinct, few_rows}
-use Rattle.sv_workload.proofs.InitLaws.{InitRows, init_judged}
+use Rattle.sv_workload.proofs.InitLaws.{init_judged}
 
 -- rows of which none is refused
 pub record Kept (schema : List Declaration) (tokens : List Token) (rows : List InitRow) (left : ℕ) : Type 0 where

@@ -1,25 +1,22 @@
 -- Packets and steps: each reading reads just the tokens that the grammar gives.
-use Rattle.std.proofs.Common.{◌≡◌, ◌∙◌, ℕ, Bool, true, false, if◌then◌else◌, cond, bytes_eq, List, [], ◌∷◌, ◌++◌, Option, Some, None, Ok, refl, sym, ap, subst, append_assoc, codes}
-use Rattle.std.proofs.lemmas.Slice.Eq.{bytes_eq-Decides}
+use Rattle.std.proofs.Common.{◌≡◌, ◌∙◌, ℕ, List, ◌++◌, Option, Some, None, refl, sym, ap, subst, codes}
 use Rattle.sv_lex.specs.declared.marks.Mark.TheVariants.{Semi}
 use Rattle.sv_lex.specs.declared.tokens.Token.{Token}
 use Rattle.sv_lex.specs.declared.tokens.TokenKind.{TokenKind}
 use Rattle.sv_lex.specs.declared.tokens.TokenKind.TheVariants.{Name, Number, Text, Mark}
-use Rattle.sv_app.specs.declared.apps.Ident.{Ident}
-use Rattle.sv_reader.specs.Grammar.{Both, ◌·◌, kind, word, mark, name}
-use Rattle.sv_reader.specs.Reading.{Read, ◌>>=◌, by_word, token_at, name_at}
+use Rattle.sv_reader.specs.Grammar.{◌·◌, word, mark, name}
+use Rattle.sv_reader.specs.Reading.{Read, ◌>>=◌, by_word, token_at}
 use Rattle.sv_reader.proofs.KindLaws.{token_of}
 use Rattle.sv_reader.proofs.MadeLaws.{Made, take_last, take_plain, skip_last}
 use Rattle.sv_reader.proofs.PartLaws.{chosen, name_law}
 use Rattle.sv_reader.proofs.AnswerLaws.{anything}
-use Rattle.sv_reader.proofs.ReadLaws.{Plain, Means, leaf, Then, follow, same_plain}
-use Rattle.sv_workload.specs.declared.written.Call.{Call}
+use Rattle.sv_reader.proofs.ReadLaws.{Plain, leaf, Then, follow, same_plain}
 use Rattle.sv_workload.specs.declared.written.Color.{Color}
 use Rattle.sv_workload.specs.declared.written.Color.TheVariants as colors
 use Rattle.sv_workload.specs.declared.written.Verb.{Verb}
 use Rattle.sv_workload.specs.declared.written.Verb.TheVariants as verbs
 use Rattle.sv_workload.specs.Grammar.{number, call, packet, line}
-use Rattle.sv_workload.specs.Reading.{verb_named, verb_of, color_named, color_of, packet_tail, packet_at, closing, line_tail, line_at}
+use Rattle.sv_workload.specs.Reading.{verb_named, color_named, packet_tail, packet_at, closing, line_tail, line_at}
 use Rattle.sv_workload.specs.Written.{Sent, Blue, Red, Line, Ask, Order, Deliver, Settle, Catch, Show, Cut}
 use Rattle.sv_workload.proofs.CallLaws.{call_law}
 use Rattle.sv_workload.proofs.SettingLaws.{count_law}

@@ -1,23 +1,19 @@
 -- Steps: what is refused of one besides the grammar is known by its mark, and the loop that reads them judges them.
-use Rattle.std.proofs.Common.{◌≡◌, ◌≢◌, ◌∙◌, ℕ, zero, suc, pos, ◌+◌, ◌<◌, ◌≤◌, ◌⊎◌, inl, inr, nat_le, Bool, true, false, ◌||◌, List, [], ◌∷◌, ◌++◌, length, map, get_or, Option, Some, None, Ok, Err, refl, sym, ap, subst, append_assoc, append-nil, arith, codes}
+use Rattle.std.proofs.Common.{◌≡◌, ◌≢◌, ◌∙◌, ℕ, zero, suc, pos, ◌+◌, ◌<◌, ◌≤◌, ◌⊎◌, inl, inr, nat_le, Bool, true, false, ◌||◌, List, [], ◌∷◌, ◌++◌, length, map, get_or, Option, Some, None, Ok, refl, sym, ap, subst, append_assoc, arith, codes}
 use Rattle.std.specs.List.{Contains}
 use Rattle.std.proofs.lemmas.Bool.Decides.{nat_tests}
 use Rattle.std.proofs.lemmas.List.{length-append, length-map, map-append}
 use Rattle.sv_lex.specs.declared.marks.Mark.TheVariants.{Semi}
 use Rattle.sv_lex.specs.declared.tokens.Token.{Token}
 use Rattle.sv_lex.specs.declared.tokens.TokenKind.TheVariants.{Name, Number, Mark}
-use Rattle.sv_app.specs.declared.apps.Ident.{Ident}
 use Rattle.sv_app.specs.declared.refusals.Code.{Code}
 use Rattle.sv_app.specs.declared.refusals.Code.TheVariants as codes_of
-use Rattle.sv_app.specs.Lookups.{table_of}
 use Rattle.sv_app.specs.Schema.{Declaration}
 use Rattle.sv_app.specs.Trees.{Transaction}
 use Rattle.sv_reader.specs.declared.faults.ReadFault.{ReadFault}
-use Rattle.sv_reader.specs.Grammar.{Both, ◌·◌, kind, word, mark, name}
-use Rattle.sv_reader.specs.Reading.{Read, given}
+use Rattle.sv_reader.specs.Grammar.{◌·◌, word, mark, name}
+use Rattle.sv_reader.specs.Reading.{given}
 use Rattle.sv_reader.proofs.KindLaws.{token_of}
-use Rattle.sv_reader.proofs.MadeLaws.{Made}
-use Rattle.sv_reader.proofs.AnswerLaws.{same_read}
 use Rattle.sv_reader.proofs.ReadLaws.{Start}
 use Rattle.sv_workload.specs.declared.lines.Steps.{Steps}
 use Rattle.sv_workload.specs.declared.written.Color.{Color}
@@ -27,19 +23,17 @@ use Rattle.sv_workload.specs.declared.written.Verb.TheVariants as verbs
 use Rattle.sv_workload.specs.Documents.{step_of}
 use Rattle.sv_workload.specs.Elements.{Refusals, Begins, IsMisplaced, AreNone}
 use Rattle.sv_workload.specs.Grammar.{number, packet, call, line}
-use Rattle.sv_workload.specs.InitRefused.{BeginsName}
 use Rattle.sv_workload.specs.LastRefused.{BeginsWord, IsOutside, CallRefused, asks, shows, total, session_words, site_words, LineRefused, TooManyAsks, TooManyShows, BadSession, BadSite, BadOrigin, BadSeq, BadSlot}
 use Rattle.sv_workload.specs.LastRefused as last
-use Rattle.sv_workload.specs.LineReading.{verb_full, is_full, full_mark, most_number, most_packet, tail_mark, number_mark, verb_mark, line_mark, line_from, step_asks, step_shows, with_step, is_more}
-use Rattle.sv_workload.specs.Reading.{verb_named, verb_of, line_at, out_mark, from_read, count_at, or_else, settled}
-use Rattle.sv_workload.specs.Written.{Sent, Line, Ask, Order, Deliver, Settle, Catch, Show, Cut}
-use Rattle.sv_workload.proofs.InitLaws.{contra}
+use Rattle.sv_workload.specs.LineReading.{verb_full, is_full, full_mark, most_number, tail_mark, number_mark, verb_mark, line_mark, line_from, step_asks, step_shows, with_step, is_more}
+use Rattle.sv_workload.specs.Reading.{verb_named, verb_of, line_at, out_mark, settled}
+use Rattle.sv_workload.specs.Written.{Line, Ask, Order, Deliver, Settle, Catch, Show, Cut}
 use Rattle.sv_workload.proofs.JudgeLaws.{Judged, judged_map}
 use Rattle.sv_workload.proofs.LastLaws.{line_some, line_none}
 use Rattle.sv_workload.proofs.LineLaws.{named, verb_word, verb_back, verb_there, color_word, Tail, tail_law, line_join, line_law}
 use Rattle.sv_workload.proofs.LoopLaws as loops
 use Rattle.sv_workload.proofs.LoopLaws.{Element}
-use Rattle.sv_workload.proofs.MarkLaws.{Marks, At, Before, no_marks, place_marks, marks_or, marks_map, lift_marks, Standing, Mark as OfMark, Misplaced, judged_marked}
+use Rattle.sv_workload.proofs.MarkLaws.{Marks, At, Before, no_marks, place_marks, marks_or, lift_marks, Standing, Mark as OfMark, Misplaced, judged_marked}
 use Rattle.sv_workload.proofs.NumberMarkLaws.{SentRefused, tail_same, OutAt, out_marks, out_place, BehindNumber, number_less, behind_marks, PacketRefused, packet_marks, TableRefused, table_marks, asked_marks}
 use Rattle.sv_workload.proofs.ValueLaws.{head_same}
 

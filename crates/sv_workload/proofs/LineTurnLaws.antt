@@ -1,15 +1,14 @@
 -- One turn more of the loop that reads steps; and what was read of a step keeps its bounds.
-use Rattle.std.proofs.Common.{◌≡◌, ◌∙◌, ℕ, pos, ◌+◌, ◌<◌, ◌≤◌, nat_lt, nat_le, Bool, true, false, ◌||◌, List, [], ◌∷◌, ◌++◌, length, Option, Some, None, Ok, Err, refl, sym, ap, subst, append_assoc, arith, codes}
+use Rattle.std.proofs.Common.{◌≡◌, ◌∙◌, ℕ, ◌<◌, ◌≤◌, nat_lt, Bool, true, false, ◌||◌, List, [], ◌∷◌, ◌++◌, length, Option, Some, None, Ok, Err, refl, sym, ap, append_assoc, arith}
 use Rattle.std.proofs.lemmas.Bool.Decides.{nat_tests}
 use Rattle.std.proofs.lemmas.List.{length-append}
 use Rattle.sv_lex.specs.declared.tokens.Token.{Token}
-use Rattle.sv_lex.specs.declared.tokens.TokenKind.TheVariants.{Name}
 use Rattle.sv_app.specs.declared.refusals.Code.{Code}
 use Rattle.sv_app.specs.declared.refusals.Code.TheVariants.{BadStep}
 use Rattle.sv_app.specs.Schema.{Declaration}
 use Rattle.sv_app.specs.Trees.{Transaction}
 use Rattle.sv_reader.specs.declared.faults.ReadFault.{ReadFault}
-use Rattle.sv_reader.specs.Grammar.{◌·◌, word, mark}
+use Rattle.sv_reader.specs.Grammar.{◌·◌, word}
 use Rattle.sv_reader.specs.Reading.{Read, given}
 use Rattle.sv_reader.proofs.ReadLaws.{Took}
 use Rattle.sv_workload.specs.declared.lines.PlainStep.{PlainStep}
@@ -22,14 +21,13 @@ use Rattle.sv_workload.specs.declared.written.Verb.TheVariants as verbs
 use Rattle.sv_workload.specs.Documents.{step_of}
 use Rattle.sv_workload.specs.Grammar.{number, packet, line}
 use Rattle.sv_workload.specs.LineReading.{line_of, full_mark, most_number, most_packet, sent_mark, packet_mark, tail_mark, number_mark, verb_mark, line_mark, line_from, lines_from, step_asks, step_shows, with_step, no_steps, is_more, IsSite, IsBoundedPacket, IsBoundedLine, IsCounted}
-use Rattle.sv_workload.specs.Reading.{natural_of, natural_at, count_at, is_out, out_mark, from_read, or_else, line_at, settled, as_item, color_of}
+use Rattle.sv_workload.specs.Reading.{natural_of, count_at, is_out, out_mark, from_read, or_else, line_at, as_item}
 use Rattle.sv_workload.specs.Written.{Sent, Blue, Red, Line, Ask, Order, Deliver, Settle, Catch, Show, Cut}
-use Rattle.sv_workload.proofs.InitLaws.{contra}
-use Rattle.sv_workload.proofs.LineLaws.{verb_word, color_word, line_law}
+use Rattle.sv_workload.proofs.LineLaws.{verb_word, line_law}
 use Rattle.sv_workload.proofs.LineMarkLaws.{verb_is, line_steps, line_shrinks}
 use Rattle.sv_workload.proofs.LoopLaws.{more, fault, end}
 use Rattle.sv_workload.proofs.NumberMarkLaws.{color_is}
-use Rattle.sv_workload.proofs.SettingLaws.{count_law, second_none, given_false, none_settled}
+use Rattle.sv_workload.proofs.SettingLaws.{count_law, second_none, given_false}
 use Rattle.sv_workload.proofs.TurnLaws.{before, before_err}
 use Rattle.sv_workload.proofs.ValueLaws.{natural_there}
 

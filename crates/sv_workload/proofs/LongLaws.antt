@@ -1,23 +1,21 @@
 -- The first element of a list argument that passes the limit.
-use Rattle.std.proofs.Common.{◌≡◌, ◌∙◌, ℕ, ℤ, pos, neg_ℤ, zero, suc, ◌<◌, ◌≤◌, ◌⊎◌, inl, inr, Bool, true, false, ◌||◌, if◌then◌else◌, cond, List, [], ◌∷◌, ◌++◌, length, drop, Option, Some, None, Ok, Err, refl, sym, ap, subst, append_assoc, append-nil, arith}
+use Rattle.std.proofs.Common.{◌≡◌, ◌∙◌, ℕ, ℤ, pos, neg_ℤ, zero, suc, ◌<◌, ◌≤◌, Bool, true, false, ◌||◌, if◌then◌else◌, List, [], ◌∷◌, ◌++◌, length, Option, Some, None, Ok, Err, refl, sym, ap, subst, append_assoc, append-nil, arith}
 use Rattle.std.proofs.lemmas.List.{length-append}
 use Rattle.sv_lex.specs.declared.marks.Mark.TheVariants.{LeftBracket, RightBracket, Comma, Minus}
 use Rattle.sv_lex.specs.declared.tokens.Token.{Token}
-use Rattle.sv_lex.specs.declared.tokens.TokenKind.{TokenKind}
-use Rattle.sv_lex.specs.declared.tokens.TokenKind.TheVariants.{Name, Number, Text, Mark}
+use Rattle.sv_lex.specs.declared.tokens.TokenKind.TheVariants.{Number, Mark}
 use Rattle.sv_app.specs.declared.requests.Arg.{Arg}
 use Rattle.sv_app.specs.declared.requests.Arg.TheVariants as args
-use Rattle.sv_reader.specs.declared.faults.ReadFault.{ReadFault}
-use Rattle.sv_reader.specs.Grammar.{Both, ◌·◌, kind, mark, others, separated}
-use Rattle.sv_reader.specs.Reading.{Read, ◌>>=◌, is_kind, is_next, next, is_some, given, kind_at}
+use Rattle.sv_reader.specs.Grammar.{Both, ◌·◌, mark, others}
+use Rattle.sv_reader.specs.Reading.{Read, is_kind, is_some, given}
 use Rattle.sv_reader.proofs.KindLaws.{token_of, kind_is, kind_same}
-use Rattle.sv_reader.proofs.MadeLaws.{Made, take_plain, skip_last}
+use Rattle.sv_reader.proofs.MadeLaws.{take_plain, skip_last}
 use Rattle.sv_reader.proofs.AnswerLaws.{anything}
-use Rattle.sv_reader.proofs.ReadLaws.{Plain, Took, same_plain}
+use Rattle.sv_reader.proofs.ReadLaws.{Plain, same_plain}
 use Rattle.sv_reader.proofs.PartLaws.{both_assoc, assoc_both}
 use Rattle.sv_workload.specs.Elements.{Begins}
-use Rattle.sv_workload.specs.Grammar.{number, listed, IsInteger, Plain as PlainInteger, Negated, argument}
-use Rattle.sv_workload.specs.LastRefused.{BeginsWith, each_comma, BeginsInteger, Sign, Plain as PlainBegins}
+use Rattle.sv_workload.specs.Grammar.{listed, IsInteger, Plain as PlainInteger, Negated, argument}
+use Rattle.sv_workload.specs.LastRefused.{each_comma, BeginsInteger, Sign, Plain as PlainBegins}
 use Rattle.sv_workload.specs.Reading.{natural_of, integer_at, argument_at, begins_integer, comma_after, from_read, long_in, list_long, long_args, or_else}
 use Rattle.sv_workload.proofs.CallLaws.{argument_law}
 use Rattle.sv_workload.proofs.MarkLaws.{past}

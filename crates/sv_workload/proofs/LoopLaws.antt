@@ -1,15 +1,15 @@
 -- Elements that stand one behind another: the loop that reads them judges them, if the reading of one element does.
-use Rattle.std.proofs.Common.{◌≡◌, ◌∙◌, ℕ, zero, suc, ◌<◌, ◌≤◌, ◌⊎◌, inl, inr, Bool, true, false, if◌then◌else◌, cond, List, [], ◌∷◌, ◌++◌, length, Ok, Err, refl, sym, ap, subst, append_assoc, append-nil, arith}
+use Rattle.std.proofs.Common.{◌≡◌, ◌∙◌, ℕ, zero, suc, ◌<◌, Bool, true, false, if◌then◌else◌, cond, List, [], ◌∷◌, ◌++◌, length, Ok, Err, refl, sym, ap, subst, append_assoc, append-nil, arith}
 use Rattle.std.proofs.lemmas.List.{length-append}
 use Rattle.sv_lex.specs.declared.tokens.Token.{Token}
 use Rattle.sv_app.specs.declared.refusals.Code.{Code}
 use Rattle.sv_reader.specs.declared.faults.ReadFault.{ReadFault}
 use Rattle.sv_reader.proofs.FuelLaws as fuel
 use Rattle.sv_reader.specs.Reading.{Read, ◌>>=◌, turns_at, keep}
-use Rattle.sv_reader.proofs.AnswerLaws.{then_ok, then_err, same_read}
-use Rattle.sv_workload.specs.Elements.{Refusals, Among, Here, Behind, IsFirst, AreNone}
+use Rattle.sv_reader.proofs.AnswerLaws.{same_read}
+use Rattle.sv_workload.specs.Elements.{Refusals, Among, Here, Behind, AreNone}
 use Rattle.sv_workload.specs.Grammar.{many}
-use Rattle.sv_workload.proofs.JudgeLaws.{Language, Alike, Judged, judged_map, Both, Either, InFirst, InSecond, judged_then}
+use Rattle.sv_workload.proofs.JudgeLaws.{Alike, Judged, judged_map, Both, Either, InFirst, InSecond, judged_then}
 
 -- an element at the front of these tokens
 pub record Element {A : Type 0} (element : A → List Token → Type 0) (tokens : List Token) (a : A) (rest : List Token) : Type 0 where

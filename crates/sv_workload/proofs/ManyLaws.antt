@@ -1,19 +1,19 @@
 -- Lists of elements behind commas, up to any closing mark.
-use Rattle.std.proofs.Common.{◌≡◌, ◌∙◌, ℕ, ◌<◌, ◌⊎◌, inl, inr, Bool, true, false, if◌then◌else◌, List, [], ◌∷◌, ◌++◌, length, Ok, Err, refl, sym, ap, subst, append_assoc, append-nil}
+use Rattle.std.proofs.Common.{◌≡◌, ◌∙◌, ◌<◌, ◌⊎◌, inl, inr, true, false, List, [], ◌∷◌, ◌++◌, length, Ok, Err, refl, sym, ap, subst, append_assoc, append-nil}
 use Rattle.sv_value.specs.declared.spots.Spot.{Spot}
 use Rattle.sv_lex.specs.declared.marks.Mark.TheVariants.{Comma}
 use Rattle.sv_lex.specs.declared.tokens.Token.{Token}
 use Rattle.sv_lex.specs.declared.tokens.TokenKind.{TokenKind}
 use Rattle.sv_lex.specs.declared.tokens.TokenKind.TheVariants.{Mark}
 use Rattle.sv_reader.specs.declared.faults.ReadFault.{ReadFault}
-use Rattle.sv_reader.specs.Grammar.{Both, ◌·◌, nothing, kind, mark, others, separated}
+use Rattle.sv_reader.specs.Grammar.{◌·◌, kind, mark, others}
 use Rattle.sv_reader.specs.Reading.{Read, ◌>>=◌, is_kind, is_next, kind_at}
 use Rattle.sv_reader.proofs.KindLaws.{kind_same}
-use Rattle.sv_reader.proofs.MadeLaws.{Made, both_map, take_last, skip_plain, skip_last}
+use Rattle.sv_reader.proofs.MadeLaws.{Made, take_last, skip_plain, skip_last}
 use Rattle.sv_reader.proofs.AnswerLaws.{next_alike}
 use Rattle.sv_reader.proofs.PartLaws.{kind_next}
 use Rattle.sv_reader.proofs.AnswerLaws.{anything, then_ok, then_err}
-use Rattle.sv_reader.proofs.ReadLaws.{Stuck, Plain, Then, then_parts, Either, Left, Right, either, same_plain, after}
+use Rattle.sv_reader.proofs.ReadLaws.{Stuck, Plain, Then, Either, Left, Right, either, same_plain, after}
 use Rattle.sv_reader.proofs.PartLaws.{only_first, both_assoc, assoc_both}
 use Rattle.sv_reader.proofs.TurnLaws.{Words, Last, More, TurnStuck, TurnOver, Turning, turns_law, turn_read, turn_err, end_read, shorter}
 use Rattle.sv_workload.specs.Grammar.{listed}

@@ -1,5 +1,5 @@
 -- What is refused at a number and behind it, and of packets, names of tables and calls that stand in a step.
-use Rattle.std.proofs.Common.{◌≡◌, ◌∙◌, ℕ, pos, ◌<◌, ◌≤◌, ◌⊎◌, inl, inr, Bool, true, false, not, if◌then◌else◌, List, [], ◌∷◌, ◌++◌, length, Option, Some, None, Ok, Err, refl, sym, ap, subst, append_assoc, arith}
+use Rattle.std.proofs.Common.{◌≡◌, ◌∙◌, ℕ, pos, ◌<◌, ◌⊎◌, inl, Bool, true, false, not, if◌then◌else◌, List, [], ◌∷◌, ◌++◌, length, Option, Some, None, Ok, Err, refl, sym, ap, subst, arith}
 use Rattle.std.proofs.lemmas.List.{length-append}
 use Rattle.sv_lex.specs.declared.tokens.Token.{Token}
 use Rattle.sv_lex.specs.declared.tokens.TokenKind.TheVariants.{Name, Number}
@@ -23,7 +23,7 @@ use Rattle.sv_workload.specs.Grammar.{number, packet, call}
 use Rattle.sv_workload.specs.InitRefused.{BeginsName}
 use Rattle.sv_workload.specs.LastRefused.{IsOutside, CallRefused, NoTxn, Unfit, LongList}
 use Rattle.sv_workload.specs.LineReading.{most_packet, sent_mark, packet_mark, unnamed_mark, table_mark, asked_mark}
-use Rattle.sv_workload.specs.Reading.{natural_of, count_at, is_out, out_mark, from_read, or_else, color_named, color_of, call_mark}
+use Rattle.sv_workload.specs.Reading.{natural_of, count_at, is_out, out_mark, from_read, color_named, color_of, call_mark}
 use Rattle.sv_workload.specs.Written.{Blue, Red}
 use Rattle.sv_workload.proofs.CallMarkLaws.{call_marks}
 use Rattle.sv_workload.proofs.InitLaws.{contra}

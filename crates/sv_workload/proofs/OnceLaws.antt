@@ -21,13 +21,12 @@ use Rattle.sv_workload.specs.declared.parts.Parts.{Parts}
 use Rattle.sv_workload.specs.declared.written.Row.{Row}
 use Rattle.sv_workload.specs.Documents.{AreRows, AreGood, AreParts, IsRefused, InInit, ByInvariant, InLast}
 use Rattle.sv_workload.specs.Elements.{Refusals, IsFirst}
-use Rattle.sv_workload.specs.InitRefused.{InitRefused}
 use Rattle.sv_workload.specs.LastRefused.{LastRefused}
 use Rattle.sv_workload.specs.Laws.{IsSame, RefusedOnce}
 use Rattle.sv_workload.specs.Reading.{init_from}
 use Rattle.sv_workload.specs.Rows.{init_row}
 use Rattle.sv_workload.proofs.DocumentLaws.{suffix_at}
-use Rattle.sv_workload.proofs.InitLaws.{InitRows, init_judged}
+use Rattle.sv_workload.proofs.InitLaws.{init_judged}
 use Rattle.sv_workload.proofs.JudgeLaws.{Alike, reads}
 use Rattle.sv_workload.proofs.KeptLaws.{rows_distinct}
 use Rattle.sv_workload.proofs.SuffixLaws.{Suffix, init_suffix, last_suffix}

@@ -11,28 +11,27 @@ use Rattle.sv_app.specs.declared.requests.Request.{Request}
 use Rattle.sv_app.specs.Accepted.{AcceptedSchema}
 use Rattle.sv_app.specs.Schema.{Declaration}
 use Rattle.sv_app.specs.Trees.{Transaction}
-use Rattle.sv_reader.specs.Grammar.{Both, ◌·◌, word}
+use Rattle.sv_reader.specs.Grammar.{◌·◌, word}
 use Rattle.sv_reader.proofs.PartLaws.{both_assoc}
 use Rattle.sv_workload.specs.declared.parts.Parts.{Parts}
 use Rattle.sv_workload.specs.declared.written.Call.{Call}
-use Rattle.sv_workload.specs.declared.written.Row.{Row}
 use Rattle.sv_workload.specs.declared.written.Setting.{Setting}
 use Rattle.sv_workload.specs.declared.written.Verb.{Verb}
 use Rattle.sv_workload.specs.declared.written.Verb.TheVariants as verbs
 use Rattle.sv_workload.specs.Documents.{request_of, step_of, work_of, AreParts}
 use Rattle.sv_workload.specs.Elements.{Refusals, Among, Here, Behind, AreNone}
-use Rattle.sv_workload.specs.Fits.{CallFits, txn_of}
+use Rattle.sv_workload.specs.Fits.{txn_of}
 use Rattle.sv_workload.specs.Grammar.{many, call, line, entry, session, last_part}
 use Rattle.sv_workload.specs.InitRefused.{BeginsName}
 use Rattle.sv_workload.specs.LastRefused.{BeginsWord, CallRefused, NoTxn, Unfit, asks, shows, total, LineRefused, TooMany, TooManyAsks, TooManyShows, InCall, BeginsCall, EntryRefused, requests_in, SessionRefused, InCalls, LastRefused, InLines, InSessions}
 use Rattle.sv_workload.specs.LastRefused as last
 use Rattle.sv_workload.specs.LineReading.{step_shows}
-use Rattle.sv_workload.specs.PartsFit.{IsRequestOf, asked, requests_of, WorkFits, PartsFit}
+use Rattle.sv_workload.specs.PartsFit.{IsRequestOf, asked, WorkFits, PartsFit}
 use Rattle.sv_workload.specs.Reading.{args_fit}
 use Rattle.sv_workload.specs.Rows.{init_row}
 use Rattle.sv_workload.specs.Written.{Line, Ask, Order, Deliver, Settle, Catch, Show, Cut, Session, Last, Absent, Replay, Run}
 use Rattle.sv_workload.proofs.CallMarkLaws.{args_fitting, fitting_args}
-use Rattle.sv_workload.proofs.FitLaws.{GoodFrom, placed, all_fit, distinct, few_rows}
+use Rattle.sv_workload.proofs.FitLaws.{placed, all_fit, distinct, few_rows}
 use Rattle.sv_workload.proofs.FrontLaws.{no_setting}
 use Rattle.sv_workload.proofs.KeptLaws.{good}
 use Rattle.sv_workload.proofs.LastLaws.{lines_unset, sessions_unset}

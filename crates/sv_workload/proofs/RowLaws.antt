@@ -1,18 +1,18 @@
 -- Initial rows: what is known of a row before it is read, and that the loop judges all of them.
-use Rattle.std.proofs.Common.{◌≡◌, ◌≢◌, ◌∙◌, ℕ, zero, suc, ◌<◌, ◌≤◌, ◌⊎◌, inl, inr, nat_le, Bool, true, false, not, ◌&&◌, ◌||◌, ◌==◌, slice_index_or, if◌then◌else◌, cond, List, [], ◌∷◌, ◌++◌, length, map, Option, Some, None, Ok, Err, refl, sym, ap, subst, append_assoc, append-nil, arith, codes}
-use Rattle.std.specs.List.{list_any, Contains}
+use Rattle.std.proofs.Common.{◌≡◌, ◌∙◌, ℕ, zero, suc, ◌<◌, ◌≤◌, nat_le, Bool, true, false, not, ◌&&◌, ◌||◌, ◌==◌, slice_index_or, if◌then◌else◌, List, [], ◌∷◌, ◌++◌, length, map, Option, Some, None, Ok, Err, refl, sym, ap, subst, arith}
+use Rattle.std.specs.List.{list_any}
 use Rattle.std.specs.declared.cmp.Ordering.{Ordering}
 use Rattle.std.specs.declared.cmp.Ordering.TheVariants.{Less, Equal, Greater}
 use Rattle.std.specs.Ordering.{is_eq}
 use Rattle.std.proofs.lemmas.Cmp.{eq_by_cmp_equiv}
 use Rattle.std.proofs.lemmas.Bool.Decides.{nat_tests}
-use Rattle.std.proofs.lemmas.List.{length-append, length-map}
+use Rattle.std.proofs.lemmas.List.{length-map}
 use Rattle.sv_value.specs.declared.values.Val.{Val}
 use Rattle.sv_value.specs.declared.values.Val.TheVariants as vals
 use Rattle.sv_lex.specs.declared.tokens.Token.{Token}
 use Rattle.sv_app.specs.declared.apps.Ident.{Ident}
 use Rattle.sv_app.specs.declared.refusals.Code.{Code}
-use Rattle.sv_app.specs.declared.refusals.Code.TheVariants.{Syntax, Unknown, Twice, Typing, Many}
+use Rattle.sv_app.specs.declared.refusals.Code.TheVariants.{Unknown, Twice, Typing, Many}
 use Rattle.sv_app.specs.declared.requests.InitRow.{InitRow}
 use Rattle.sv_app.specs.declared.schemas.Column.{Column}
 use Rattle.sv_app.specs.declared.schemas.Ty.{Ty}
@@ -28,7 +28,7 @@ use Rattle.sv_effect.specs.Initial.{ValuesFit}
 use Rattle.sv_effect.specs.TablesOfCut.{init_place, is_place}
 use Rattle.sv_reader.specs.declared.faults.ReadFault.{ReadFault}
 use Rattle.sv_reader.specs.Grammar.{IsName}
-use Rattle.sv_reader.specs.Reading.{Read, given, name_of, is_name}
+use Rattle.sv_reader.specs.Reading.{Read, given, name_of}
 use Rattle.sv_reader.proofs.PartLaws.{name_is}
 use Rattle.sv_reader.proofs.PartLaws as parts
 use Rattle.sv_reader.proofs.AnswerLaws.{same_read}

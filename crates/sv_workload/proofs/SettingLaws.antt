@@ -1,5 +1,5 @@
 -- Settings: the loop that reads them judges them.
-use Rattle.std.proofs.Common.{◌≡◌, ◌≢◌, ◌∙◌, ℕ, ℤ, pos, nat_abs, zero, suc, ◌<◌, ◌≤◌, ◌⊎◌, inl, inr, nat_lt, Bool, true, false, ◌||◌, if◌then◌else◌, cond, bytes_eq, List, [], ◌∷◌, ◌++◌, length, Option, Some, None, Ok, Err, refl, sym, ap, subst, append_assoc, append-nil, arith, codes}
+use Rattle.std.proofs.Common.{◌≡◌, ◌∙◌, ℕ, ℤ, pos, nat_abs, ◌<◌, ◌≤◌, ◌⊎◌, inl, inr, nat_lt, Bool, true, false, ◌||◌, if◌then◌else◌, bytes_eq, List, [], ◌∷◌, ◌++◌, length, Option, Some, None, Ok, Err, refl, sym, ap, subst, append_assoc, arith, codes}
 use Rattle.std.specs.Prelude.{Result, IfOk}
 use Rattle.std.proofs.lemmas.Bool.Decides.{nat_tests}
 use Rattle.std.proofs.lemmas.List.{length-append}
@@ -10,23 +10,22 @@ use Rattle.sv_lex.specs.declared.tokens.TokenKind.{TokenKind}
 use Rattle.sv_lex.specs.declared.tokens.TokenKind.TheVariants.{Name, Number, Text, Mark}
 use Rattle.sv_app.specs.declared.refusals.Code.{Code}
 use Rattle.sv_app.specs.declared.refusals.Code.TheVariants as codes_of
-use Rattle.sv_app.specs.Codes.{number_of}
 use Rattle.sv_reader.specs.declared.faults.ReadFault.{ReadFault}
 use Rattle.sv_reader.specs.declared.faults.ReadStop.{ReadStop}
-use Rattle.sv_reader.specs.Grammar.{Both, ◌·◌, kind, word, mark}
-use Rattle.sv_reader.specs.Reading.{Read, Reads, ◌>>=◌, is_kind, is_some, by_word, given, token_at}
+use Rattle.sv_reader.specs.Grammar.{word, mark}
+use Rattle.sv_reader.specs.Reading.{Read, Reads, is_kind, is_some, by_word, given, token_at}
 use Rattle.sv_reader.proofs.KindLaws.{token_of, kind_is, kind_same}
 use Rattle.sv_reader.proofs.MadeLaws.{Made, take_last, take_plain, skip_plain}
-use Rattle.sv_reader.proofs.AnswerLaws.{anything, same_read}
-use Rattle.sv_reader.proofs.ReadLaws.{Took, Plain, Means, leaf, same_plain}
+use Rattle.sv_reader.proofs.AnswerLaws.{anything}
+use Rattle.sv_reader.proofs.ReadLaws.{Took, Plain, leaf, same_plain}
 use Rattle.sv_workload.specs.declared.written.Given.{Given}
 use Rattle.sv_workload.specs.declared.written.Setting.{Setting}
 use Rattle.sv_workload.specs.declared.written.Setting.TheVariants.{Sites, Rows, Changes}
-use Rattle.sv_workload.specs.Elements.{Refusals, Begins, IsMisplaced, Among, AreNone}
+use Rattle.sv_workload.specs.Elements.{Refusals, Begins, IsMisplaced, AreNone}
 use Rattle.sv_workload.specs.Grammar.{number, setting_word, setting}
 use Rattle.sv_workload.specs.LastRefused.{BeginsWith, IsOutside, Sets, BeginsSetting, least_of, most_of, SettingRefused, Misplaced as SettingMisplaced, Repeated, Outside}
 use Rattle.sv_workload.specs.LastRefused as last
-use Rattle.sv_workload.specs.Reading.{natural_of, natural_at, count_at, setting_named, setting_of, begins_setting, setting_at, is_out, out_mark, given_of, with_setting, again_mark, number_mark, marks_by, setting_mark, setting_from, settled, or_else, unset, IsBounded}
+use Rattle.sv_workload.specs.Reading.{natural_of, count_at, setting_named, setting_of, begins_setting, setting_at, is_out, out_mark, given_of, with_setting, again_mark, number_mark, marks_by, setting_mark, setting_from, settled, or_else, unset, IsBounded}
 use Rattle.sv_workload.proofs.JudgeLaws.{Judged, judged_map}
 use Rattle.sv_workload.proofs.LoopLaws.{Element, Steps}
 use Rattle.sv_workload.proofs.MarkLaws.{Marks, At, Before, no_marks, place_marks, marks_or, marks_map, Standing, Mark as OfMark, Misplaced, judged_marked}

@@ -1,5 +1,5 @@
 -- One turn more of a loop that reads elements.
-use Rattle.std.proofs.Common.{◌≡◌, ◌∙◌, ◌<◌, true, false, List, [], ◌∷◌, ◌++◌, length, ℕ, Ok, Err, refl, sym, ap}
+use Rattle.std.proofs.Common.{◌≡◌, ◌∙◌, ◌<◌, true, false, List, [], ◌∷◌, ◌++◌, length, ℕ, Ok, Err, sym, ap}
 use Rattle.sv_lex.specs.declared.tokens.Token.{Token}
 use Rattle.sv_app.specs.declared.requests.InitRow.{InitRow}
 use Rattle.sv_app.specs.Schema.{Declaration}
@@ -7,7 +7,6 @@ use Rattle.sv_reader.specs.declared.faults.ReadFault.{ReadFault}
 use Rattle.sv_reader.specs.Reading.{Read, is_name}
 use Rattle.sv_reader.proofs.AnswerLaws.{same_read}
 use Rattle.sv_workload.specs.declared.written.Given.{Given}
-use Rattle.sv_workload.specs.declared.written.Row.{Row}
 use Rattle.sv_workload.specs.declared.written.Setting.{Setting}
 use Rattle.sv_workload.specs.Reading.{as_item, row_from, rows_from, begins_setting, setting_from, settings_from, with_setting}
 use Rattle.sv_workload.specs.Rows.{init_row}

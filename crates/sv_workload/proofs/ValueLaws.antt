@@ -1,15 +1,15 @@
 -- Numbers, values and rows: each reading reads just the tokens that the grammar gives.
-use Rattle.std.proofs.Common.{◌≡◌, ◌∙◌, ℕ, ℤ, pos, negsuc, neg_ℤ, Bool, true, false, List, [], ◌∷◌, ◌++◌, Some, None, Ok, refl, sym, ap, subst, arith, int_le}
+use Rattle.std.proofs.Common.{◌≡◌, ◌∙◌, ℕ, ℤ, pos, negsuc, neg_ℤ, Bool, true, false, List, [], ◌∷◌, ◌++◌, Some, refl, sym, ap, subst, arith, int_le}
 use Rattle.std.proofs.lemmas.Int.{ints}
 use Rattle.sv_value.specs.declared.values.Val.{Val}
 use Rattle.sv_value.specs.declared.values.Val.TheVariants as vals
-use Rattle.sv_lex.specs.declared.marks.Mark.TheVariants.{LeftParen, RightParen, Comma, Semi, Minus}
+use Rattle.sv_lex.specs.declared.marks.Mark.TheVariants.{LeftParen, Comma, Semi, Minus}
 use Rattle.sv_lex.specs.declared.tokens.Token.{Token}
 use Rattle.sv_lex.specs.declared.tokens.TokenKind.{TokenKind}
 use Rattle.sv_lex.specs.declared.tokens.TokenKind.TheVariants.{Name, Number, Text, Mark}
 use Rattle.sv_app.specs.declared.apps.Ident.{Ident}
-use Rattle.sv_reader.specs.Grammar.{Both, ◌·◌, kind, mark, name, text, separated}
-use Rattle.sv_reader.specs.Reading.{Read, ◌>>=◌, is_kind, is_next, is_text, is_some, bytes_of, given, token_at, kind_at, name_at, text_of, list_at}
+use Rattle.sv_reader.specs.Grammar.{◌·◌, kind, mark, name, text}
+use Rattle.sv_reader.specs.Reading.{is_kind, is_next, is_text, is_some, bytes_of, given, list_at}
 use Rattle.sv_reader.proofs.KindLaws.{token_of}
 use Rattle.sv_reader.proofs.ListLaws.{list}
 use Rattle.sv_reader.proofs.MadeLaws.{Made, both_map, take_last, take_plain, skip_plain, skip_last}

@@ -1,5 +1,5 @@
 -- The parts of a document: what is read of them, and which refusal the others get. Initial rows come before their invariants, and these before the last part.
-use Rattle.std.specs.Prelude.{◌≡◌, ℕ, List, [], ◌∷◌, ◌++◌, length, map, max, Option, Some, None, unwrap_or, slice_get, Result, Ok, Err}
+use Rattle.std.specs.Prelude.{◌≡◌, ℕ, List, [], length, map, max, Some, unwrap_or, slice_get, Result, Ok, Err}
 use Rattle.sv_value.specs.declared.packets.Packet.{Packet}
 use Rattle.sv_value.specs.declared.packets.Packet.TheVariants as packets
 use Rattle.sv_value.specs.declared.spots.Spot.{Spot}

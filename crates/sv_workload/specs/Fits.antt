@@ -1,5 +1,5 @@
 -- Rows fit their tables, and calls their transactions: one value for each column or parameter, of its type.
-use Rattle.std.specs.Prelude.{List, [], ◌∷◌, Option}
+use Rattle.std.specs.Prelude.{List, Option}
 use Rattle.std.specs.List.{find}
 use Rattle.sv_app.specs.declared.apps.Ident.{Ident}
 pub use Rattle.sv_app.specs.Fitting.{ArgFits, ArgsFit}

@@ -1,5 +1,5 @@
 -- Where initial rows are refused.
-use Rattle.std.specs.Prelude.{◌≡◌, ◌≤◌, ℕ, List, [], ◌∷◌, ◌++◌, length, Some, None, codes}
+use Rattle.std.specs.Prelude.{◌≡◌, ◌≤◌, List, [], ◌∷◌, ◌++◌, length, Some, None, codes}
 use Rattle.std.specs.List.{Contains}
 use Rattle.sv_lex.specs.declared.marks.Mark.TheVariants.{Percents}
 use Rattle.sv_lex.specs.declared.tokens.Token.{Token}
@@ -11,7 +11,7 @@ use Rattle.sv_app.specs.Lookups.{table_of}
 use Rattle.sv_app.specs.Schema.{Declaration}
 use Rattle.sv_effect.specs.TablesOfCut.{init_place}
 use Rattle.sv_reader.specs.Grammar.{IsName}
-use Rattle.sv_workload.specs.Elements.{IsMisplaced, Refusals, Among}
+use Rattle.sv_workload.specs.Elements.{IsMisplaced, Among}
 use Rattle.sv_workload.specs.Fits.{RowFits}
 use Rattle.sv_workload.specs.Grammar.{row, init_head, init_part}
 use Rattle.sv_workload.specs.Rows.{init_row}

@@ -14,7 +14,7 @@ use Rattle.sv_app.specs.Lookups.{table_of}
 use Rattle.sv_app.specs.Schema.{Declaration}
 use Rattle.sv_app.specs.Trees.{Transaction}
 use Rattle.sv_reader.specs.Grammar.{◌·◌, nothing, word, mark, name}
-use Rattle.sv_workload.specs.Elements.{IsMisplaced, Refusals, Among}
+use Rattle.sv_workload.specs.Elements.{IsMisplaced, Among}
 use Rattle.sv_workload.specs.Fits.{CallFits, txn_of}
 use Rattle.sv_workload.specs.Grammar.{many, number, IsInteger, argument, call, setting_word, setting, line, session_head, entry, session, replay_head, run_head}
 use Rattle.sv_workload.specs.InitRefused.{BeginsName}
@@ -23,7 +23,7 @@ use Rattle.sv_workload.specs.declared.written.PartHead.{PartHead}
 use Rattle.sv_workload.specs.declared.written.PartHead.TheVariants.{Replay as ReplayHead, Run as RunHead}
 use Rattle.sv_workload.specs.declared.written.Setting.{Setting}
 use Rattle.sv_workload.specs.declared.written.Setting.TheVariants.{Sites, Rows, Changes}
-use Rattle.sv_workload.specs.Written.{Line, Ask, Order, Deliver, Settle, Catch, Show, Cut, Session}
+use Rattle.sv_workload.specs.Written.{Line, Ask, Show, Session}
 
 -- a word stands here, or a number
 abbrev pub BeginsWith : TokenKind → List Token → Type 0

@@ -1,5 +1,5 @@
 -- What became of the initial rows and of the last part: they were read, or a refusal of them is known.
-use Rattle.std.specs.Prelude.{◌≡◌, ℕ, List, [], ◌-◌, length, drop, max, Some, unwrap_or, slice_get, Ok, Err}
+use Rattle.std.specs.Prelude.{◌≡◌, ℕ, List, [], length, max, Some, unwrap_or, slice_get, Ok, Err}
 use Rattle.sv_value.specs.declared.spots.Spot.{Spot}
 use Rattle.sv_lex.specs.declared.tokens.Token.{Token}
 use Rattle.sv_app.specs.declared.refusals.Code.TheVariants.{BadInit}

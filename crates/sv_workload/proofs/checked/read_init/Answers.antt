@@ -1,10 +1,9 @@
-use Rattle.std.proofs.Common.{◌≡◌, ◌∙◌, List, All, length, ◌≤◌, Ok, Err, sym, ap, subst, arith}
-use Rattle.sv_app.specs.declared.refusals.Refusal.{Refusal}
+use Rattle.std.proofs.Common.{◌≡◌, ◌∙◌, All, length, ◌≤◌, Err, sym, ap, subst}
 use Rattle.sv_app.specs.declared.refusals.Stop.TheVariants.{Refused}
 use Rattle.sv_app.specs.Schema.{schema_of}
 use Rattle.sv_effect.specs.Initial.{InitFits, AreDistinct}
 use Rattle.sv_reader.specs.Places.{refusal_of}
-use Rattle.sv_workload.specs.Stops.{IsBad, InitStops, ByFault, ByRow}
+use Rattle.sv_workload.specs.Stops.{IsBad, ByFault, ByRow}
 use Rattle.sv_workload.proofs.KeptLaws.{kept, rows_fit, rows_distinct, rows_few}
 use Rattle.sv_workload.proofs.checked.read_init.Goals as goal
 

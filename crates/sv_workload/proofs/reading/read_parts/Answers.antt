@@ -1,4 +1,4 @@
-use Rattle.std.proofs.Common.{◌≡◌, ◌∙◌, drop, subst}
+use Rattle.std.proofs.Common.{drop, subst}
 use Rattle.sv_app.specs.Schema.{schema_of}
 use Rattle.sv_app.specs.Trees.{transactions_of}
 use Rattle.sv_reader.proofs.CutLaws.{whole_drop}

@@ -1,4 +1,4 @@
-use Rattle.std.proofs.Common.{◌≡◌, ◌∙◌, sym}
+use Rattle.std.proofs.Common.{◌∙◌, sym}
 use Rattle.sv_workload.proofs.SettingLaws.{bounded_read}
 use Rattle.sv_workload.proofs.settings.next_setting.Goals as goal
 
