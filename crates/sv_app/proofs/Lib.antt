@@ -1,3 +1,6 @@
 pub mod AcceptedLaws
+pub mod ListLaws
 pub mod PlaceLaws
+pub mod SchemaLaws
+pub mod TestLaws
 pub mod Trees

@@ -19,7 +19,7 @@ use Rattle.sv_check.specs.Initial.{initial_row, initial_tables, HasEarlier, Fail
 use Rattle.sv_check.specs.Tests.{held_cmp, rules_of, held_by, is_held, is_there, fails, first_failed}
 use Rattle.sv_check.proofs.FailLaws.{held_before, breaks, keeps, seen_before, unbroken, invariants_in}
 use Rattle.sv_check.proofs.InitialLaws.{IsInitial, kept_from, kept_at, one_place}
-use Rattle.sv_check.proofs.ListLaws.{Stands, contains_at, find_none, IsFound, find_some, map_none, IsSomeBy, map_some, same_some}
+use Rattle.sv_app.proofs.ListLaws.{Stands, contains_at, find_none, IsFound, find_some, map_none, IsSomeBy, map_some, same_some}
 use Rattle.sv_check.proofs.RuleLaws.{clash}
 use Rattle.sv_check.proofs.SetLaws.{noted_more}
 

@@ -24,7 +24,7 @@ use Rattle.sv_effect.specs.Reads.{SeenValue, ReadValue}
 use Rattle.sv_effect.proofs.FollowLaws.{quiet, so, next_to}
 use Rattle.sv_effect.proofs.OverlayLaws.{told_back}
 use Rattle.sv_check.specs.Clashes.{Pair, same_got, present_value, pair_of, values_of, values_at, Clashes}
-use Rattle.sv_check.proofs.ListLaws.{Stands, any_at, Passes, any_passes}
+use Rattle.sv_app.proofs.ListLaws.{Stands, any_at, Passes, any_passes}
 use Rattle.sv_check.proofs.RuleLaws.{clash}
 use Rattle.sv_check.proofs.SetLaws.{flat_more}
 

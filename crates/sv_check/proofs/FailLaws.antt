@@ -23,7 +23,7 @@ use Rattle.sv_check.specs.Least.{IsOwn}
 use Rattle.sv_check.specs.Rules.{is_met, is_listed}
 use Rattle.sv_check.specs.Tests.{val_in, held_cmp, held_of, rules_of, held_by, is_held, is_there, referred, fails}
 use Rattle.sv_check.proofs.InitialLaws.{initial_at, get-initial, IsInitial, initial_from, there-initial}
-use Rattle.sv_check.proofs.ListLaws.{Stands, contained, either_true}
+use Rattle.sv_app.proofs.ListLaws.{Stands, contained, either_true}
 use Rattle.sv_check.proofs.RuleLaws.{clash, meets, met, listed, in_list}
 use Rattle.sv_check.proofs.ValueLaws.{value-in, held_total, exact_held}
 

@@ -20,7 +20,7 @@ use Rattle.sv_check.specs.Least.{IsLeast, lesser}
 use Rattle.sv_check.specs.Clashes.{Pair, Clashes, in_order, ordered_cmp, first_with, with_both}
 use Rattle.sv_check.proofs.ClashLaws.{HasTwo, has_two, two_clash, cases_keys}
 use Rattle.sv_check.proofs.LeastLaws.{least_both, least_same, least_one}
-use Rattle.sv_check.proofs.ListLaws.{Stands, front_at, back_stands, in_either}
+use Rattle.sv_app.proofs.ListLaws.{Stands, front_at, back_stands, in_either}
 
 -- ---- the order of values
 

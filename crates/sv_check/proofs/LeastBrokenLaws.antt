@@ -33,7 +33,7 @@ use Rattle.sv_check.specs.Clashes.{Pair, values_of, values_at, Clashes}
 use Rattle.sv_check.proofs.BrokenLaws.{not_left, from_present}
 use Rattle.sv_check.proofs.ClashLaws.{HasTwo, has_two, two_clash, cases_keys}
 use Rattle.sv_check.proofs.LeastLaws.{least_both, least_same, least_one}
-use Rattle.sv_check.proofs.ListLaws.{Stands, Passes, any_passes, flat_stands, stands_in}
+use Rattle.sv_app.proofs.ListLaws.{Stands, Passes, any_passes, flat_stands, stands_in}
 use Rattle.sv_check.proofs.RuleLaws.{clash}
 use Rattle.sv_check.proofs.WalkLaws.{other_table}
 

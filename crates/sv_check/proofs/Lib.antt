@@ -9,7 +9,6 @@ pub mod FirstLaws
 pub mod InitialLaws
 pub mod LeastBrokenLaws
 pub mod LeastLaws
-pub mod ListLaws
 pub mod ReferLaws
 pub mod RuleLaws
 pub mod SetLaws

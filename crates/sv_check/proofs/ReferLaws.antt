@@ -21,7 +21,7 @@ use Rattle.sv_effect.specs.declared.left.LeftRow.{LeftRow}
 use Rattle.sv_effect.specs.Words.{IsWordGot}
 use Rattle.sv_effect.specs.Overlays.{left_row}
 use Rattle.sv_check.specs.Bounds.{is_counter, AreBounded}
-use Rattle.sv_check.proofs.ListLaws.{Stands, contained}
+use Rattle.sv_app.proofs.ListLaws.{Stands, contained}
 
 -- the column that is found by its name stands at the place of the name
 found_at : (columns : List Column) (name : Ident) (c : Column) → find (λ x. is_named x.name name) columns ≡ Some c

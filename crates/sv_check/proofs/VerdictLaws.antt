@@ -47,7 +47,7 @@ use Rattle.sv_check.proofs.AnswerLaws.{cases_below, numbers_from, numbered_front
 use Rattle.sv_check.proofs.FailLaws.{invariants_in}
 use Rattle.sv_check.proofs.LeastBrokenLaws.{key_itself}
 use Rattle.sv_check.proofs.BrokenLaws.{present_from, from_present}
-use Rattle.sv_check.proofs.ListLaws.{Stands, contains_at, same_some}
+use Rattle.sv_app.proofs.ListLaws.{Stands, contains_at, same_some}
 use Rattle.sv_check.proofs.RuleLaws.{clash, meets, met, listed, in_list}
 
 -- ---- a table's invariants, one after the other

@@ -30,7 +30,7 @@ use Rattle.sv_core.specs.Legal.{home, Legal, IsNext, FitsDoc}
 use Rattle.sv_core.specs.World.{packet_due, answer_due}
 use Rattle.sv_core.specs.WorldState.{Stands, Keeps, IsReply, Publishes}
 use Rattle.sv_core.proofs.ListLaws.{get_last}
-use Rattle.sv_core.proofs.CutLaws.{same_test, other_test}
+use Rattle.sv_app.proofs.TestLaws.{same_test, other_test}
 use Rattle.sv_core.proofs.HistoryLaws.{own, back_to_now}
 use Rattle.sv_core.proofs.RoomLaws.{answers_few}
 use Rattle.sv_core.proofs.TakeLaws.{takes}

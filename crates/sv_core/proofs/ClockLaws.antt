@@ -8,7 +8,7 @@ use Rattle.sv_effect.specs.TablesOfCut.{Family, all_to}
 use Rattle.sv_effect.proofs.Members.{In, Source, source, in_all, Grown, grown_in, in_grown}
 use Rattle.sv_core.specs.Clock.{latest_of, latest_in}
 use Rattle.sv_core.proofs.ListLaws.{get_taken}
-use Rattle.sv_core.proofs.CutLaws.{same_test, other_test}
+use Rattle.sv_app.proofs.TestLaws.{same_test, other_test}
 
 pub latest_above : (ops : List Op) (op : Op) → In op ops → op.time ≤ latest_of ops
 latest_above [] op h = absurd h

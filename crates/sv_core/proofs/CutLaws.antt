@@ -1,8 +1,7 @@
--- Cuts as operations carry them, and tests of numbers.
-use Rattle.std.proofs.Common.{◌≡◌, ◌⊎◌, inl, inr, ℕ, zero, suc, ◌<◌, ◌≤◌, ◌==◌, ◌&&◌, Bool, true, false, length, get_or, refl, sym, ◌∙◌, arith}
+-- Cuts as operations carry them.
+use Rattle.std.proofs.Common.{◌≡◌, ◌⊎◌, inl, inr, ℕ, zero, suc, ◌<◌, ◌≤◌, ◌&&◌, Bool, true, false, length, get_or, refl, sym, ◌∙◌, arith}
 use Rattle.std.specs.Prelude.{map}
 use Rattle.std.proofs.lemmas.Grind.{same_number_lists}
-use Rattle.std.proofs.lemmas.Bool.Decides.{nat_tests}
 use Rattle.sv_value.specs.declared.cuts.Cut.{Cut as CodeCut}
 use Rattle.sv_value.specs.Cuts.{counts}
 use Rattle.sv_effect.specs.Cut.{Cut, all_sites, as_deps}
@@ -28,15 +27,6 @@ counts_as cut none (suc (suc (suc (suc (suc (suc zero)))))) = refl
 counts_as cut none (suc (suc (suc (suc (suc (suc (suc zero))))))) = refl
 counts_as cut none (suc (suc (suc (suc (suc (suc (suc (suc zero)))))))) = refl
 counts_as cut none (suc (suc (suc (suc (suc (suc (suc (suc (suc n))))))))) = sym (none (suc (suc (suc (suc (suc (suc (suc (suc (suc n))))))))) (omega arith))
-
-pub same_test : (a b : ℕ) → a ≡ b → (a == b) ≡ true
-same_test a b e = grind (arith, nat_tests)
-
-pub other_test : (a b : ℕ) → (a ≡ b → ⊥) → (a == b) ≡ false
-other_test a b e = grind (arith, nat_tests)
-
-pub test_same : (a b : ℕ) → (a == b) ≡ true → a ≡ b
-test_same a b e = grind (arith, nat_tests)
 
 pub both_true : (a b : Bool) → (a && b) ≡ true → (a ≡ true) × (b ≡ true)
 both_true true true e = (refl, refl)

@@ -18,7 +18,8 @@ use Rattle.sv_core.specs.Run.{run_of}
 use Rattle.sv_core.specs.History.{History, brings, cut_of, back_to, op_of, news, published, tables_at}
 use Rattle.sv_core.specs.Legal.{home, Legal, IsAnswer, IsPacket}
 use Rattle.sv_core.proofs.ListLaws.{get_within}
-use Rattle.sv_core.proofs.CutLaws.{counts_as, other_test}
+use Rattle.sv_app.proofs.TestLaws.{other_test}
+use Rattle.sv_core.proofs.CutLaws.{counts_as}
 use Rattle.sv_core.proofs.MediumLaws.{news_stay, news_held, news_long, news_longer}
 
 -- what was published stays

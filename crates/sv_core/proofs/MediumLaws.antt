@@ -6,7 +6,7 @@ use Rattle.sv_effect.specs.declared.ops.Op.{Op}
 use Rattle.sv_effect.specs.Cut.{Medium}
 use Rattle.sv_core.specs.History.{with_news}
 use Rattle.sv_core.proofs.ListLaws.{get_front, get_pushed, take_front}
-use Rattle.sv_core.proofs.CutLaws.{same_test, other_test}
+use Rattle.sv_app.proofs.TestLaws.{same_test, other_test}
 
 pub news_stay : (n : Option (ℕ × Op)) (m : Medium) (o q : ℕ) (op : Op) → slice_get (m o) q ≡ Some op → slice_get (with_news n m o) q ≡ Some op
 news_stay None m o q op e = e

@@ -21,7 +21,8 @@ use Rattle.sv_effect.specs.Cut.{Cut, as_deps}
 use Rattle.sv_effect.specs.TablesOfCut.{tables_of}
 use Rattle.sv_core.specs.History.{History, count_where, cut_of, back_to, op_of, news, with_news, published, tables_at}
 use Rattle.sv_core.specs.Plain.{medium_of, with_entry, named_by_site, Told, IsAsked, IsPlaced, IsJudged}
-use Rattle.sv_core.proofs.CutLaws.{same_test, other_test, deps_are}
+use Rattle.sv_app.proofs.TestLaws.{same_test, other_test}
+use Rattle.sv_core.proofs.CutLaws.{deps_are}
 use Rattle.sv_core.proofs.HistoryLaws.{cut_grows, within, back_to_now, packed}
 use Rattle.sv_core.proofs.RoomLaws.{published_few}
 use Rattle.sv_core.proofs.AskLaws.{op_on, op_due}

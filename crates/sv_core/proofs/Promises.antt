@@ -21,7 +21,8 @@ use Rattle.sv_core.specs.World.{first_short, first_missing, origins, packet_at, 
 use Rattle.sv_core.specs.Laws as law
 use Rattle.sv_core.specs.Laws.{Merges, EachIsNext, IsLacked, IsCause}
 use Rattle.sv_core.proofs.ListLaws.{get_within, get_some}
-use Rattle.sv_core.proofs.CutLaws.{test_same, both_true}
+use Rattle.sv_app.proofs.TestLaws.{test_same}
+use Rattle.sv_core.proofs.CutLaws.{both_true}
 use Rattle.sv_core.proofs.HistoryLaws.{cut_grows, within, back_to_now, packed, own, counts_cut}
 use Rattle.sv_core.proofs.MediumLaws.{news_get}
 use Rattle.sv_effect.proofs.Promises as effects

@@ -9,7 +9,8 @@ use Rattle.sv_core.specs.declared.entries.Entry.TheVariants.{Answer, Apply}
 use Rattle.sv_effect.specs.Cut.{Medium}
 use Rattle.sv_core.specs.History.{History, brings, cut_of, op_of, published, answers}
 use Rattle.sv_core.specs.Legal.{home, Legal}
-use Rattle.sv_core.proofs.CutLaws.{order, same_test, other_test}
+use Rattle.sv_app.proofs.TestLaws.{same_test, other_test}
+use Rattle.sv_core.proofs.CutLaws.{order}
 use Rattle.sv_core.proofs.ListLaws.{get_within}
 use Rattle.sv_core.proofs.MediumLaws.{news_long}
 use Rattle.sv_core.proofs.HistoryLaws.{within, few, home_least, home_most, packed}

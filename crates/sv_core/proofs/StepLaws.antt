@@ -20,7 +20,7 @@ use Rattle.sv_core.specs.History.{History, cut_of, back_to, published, tables_at
 use Rattle.sv_core.specs.Legal.{home, Legal, IsNext, IsPacket, FitsDoc}
 use Rattle.sv_core.specs.World.{packet_due, answer_due}
 use Rattle.sv_core.specs.WorldState.{Stands}
-use Rattle.sv_core.proofs.CutLaws.{same_test, other_test}
+use Rattle.sv_app.proofs.TestLaws.{same_test, other_test}
 use Rattle.sv_core.proofs.HistoryLaws.{within, held_since, tables_since, back_to_now}
 use Rattle.sv_core.proofs.ClockLaws.{latest_more}
 use Rattle.sv_core.proofs.RoomLaws.{small_origin}

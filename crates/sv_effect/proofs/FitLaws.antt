@@ -15,7 +15,7 @@ use Rattle.sv_effect.specs.declared.ops.Write.TheVariants.{Delta, Set}
 use Rattle.sv_effect.specs.RowChange.{last_cell, written, made, each}
 use Rattle.sv_effect.specs.Fits.{WriteFits, IsWrite, AreWrites, AllAbove, Ascending, columns_written, CellFits, CellsFit, IsNarrow, CountsFit}
 use Rattle.sv_effect.specs.Suits.{Suits, SuitsAt, with_cell, AllSuit}
-use Rattle.sv_effect.proofs.TestLaws.{same_test, other_test, test_same}
+use Rattle.sv_app.proofs.TestLaws.{same_test, other_test, test_same}
 use Rattle.sv_effect.proofs.WriteLaws.{each_with}
 
 -- the cell of a column

@@ -23,7 +23,7 @@ use Rattle.sv_effect.specs.Fits.{HasType, KeyFits, FitsSchema, AllFit, OpFits, C
 use Rattle.sv_effect.specs.TablesOfCut.{is_place}
 use Rattle.sv_effect.specs.Commutes.{TablesFit}
 use Rattle.sv_effect.specs.Laws.{HasNoLists}
-use Rattle.sv_effect.proofs.TestLaws.{test_same}
+use Rattle.sv_app.proofs.TestLaws.{test_same}
 use Rattle.sv_effect.proofs.FitLaws.{writes_fit}
 
 same_column : (a b : Column) → Some a ≡ Some b → a ≡ b

@@ -20,6 +20,5 @@ pub mod SourceLaws
 pub mod SpotLaws
 pub mod SumLaws
 pub mod TableLaws
-pub mod TestLaws
 pub mod WordLaws
 pub mod WriteLaws

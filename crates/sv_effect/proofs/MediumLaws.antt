@@ -22,7 +22,7 @@ use Rattle.sv_effect.proofs.Members.{In, Comes, comes, Source, source, Grown}
 use Rattle.sv_effect.proofs.GreatestLaws.{Alone}
 use Rattle.sv_effect.proofs.CellLaws.{Late}
 use Rattle.sv_effect.proofs.RowLaws.{Orderly, Merging}
-use Rattle.sv_effect.proofs.TestLaws.{test_same, or_left, or_right}
+use Rattle.sv_app.proofs.TestLaws.{test_same, or_left, or_right}
 use Rattle.sv_effect.proofs.PlaceListLaws.{at_place-append}
 
 pub in_at_place : (q : Place) (cs : List Change) (c : Change) → In c (at_place q cs) → In c cs

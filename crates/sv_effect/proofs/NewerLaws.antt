@@ -45,7 +45,7 @@ use Rattle.sv_effect.specs.TablesOfCut.{is_place}
 use Rattle.sv_effect.proofs.FitLaws.{CellAt, cell_at, get_each, made_past}
 use Rattle.sv_effect.proofs.KeptLaws.{change_kept, key_type, zero_fits, zero_type}
 use Rattle.sv_effect.proofs.SourceLaws.{get-bare}
-use Rattle.sv_effect.proofs.TestLaws.{same_test, other_test, test_same}
+use Rattle.sv_app.proofs.TestLaws.{same_test, other_test, test_same}
 use Rattle.sv_effect.proofs.WriteLaws.{each_with, each_still}
 
 -- ---- the write to a column

@@ -6,7 +6,7 @@ use Rattle.sv_app.specs.declared.places.Place.{Place}
 use Rattle.sv_effect.specs.Applied.{Change, place_of}
 use Rattle.sv_effect.specs.TablesOfCut.{Family, is_place, at_place, all_to}
 use Rattle.sv_effect.proofs.Members.{Grown}
-use Rattle.sv_effect.proofs.TestLaws.{or_left, or_right, or_assoc}
+use Rattle.sv_app.proofs.TestLaws.{or_left, or_right, or_assoc}
 
 abbrev pub among : Place → List Place → Bool
 among q [] = false

@@ -17,7 +17,7 @@ use Rattle.sv_effect.specs.TablesOfCut.{Family, to_column, writes_to, set_by, se
 use Rattle.sv_effect.proofs.Members.{In, Comes, comes, Source, source, in_all, Grown}
 use Rattle.sv_effect.proofs.GreatestLaws.{Alone}
 use Rattle.sv_effect.proofs.CellLaws.{all_made, all_made-append, made_is, Late, greatest_more, last_more, cell_more}
-use Rattle.sv_effect.proofs.TestLaws.{other_test, test_same}
+use Rattle.sv_app.proofs.TestLaws.{other_test, test_same}
 
 -- changes made to a row in order
 abbrev pub changed_all : Bool → List Change → StampedRow → StampedRow

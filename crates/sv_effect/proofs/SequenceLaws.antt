@@ -10,7 +10,7 @@ use Rattle.sv_effect.specs.Cut.{Cut, Medium, empty}
 use Rattle.sv_effect.specs.TablesOfCut.{tables_held, tables_of}
 use Rattle.sv_effect.specs.Sequences.{Placed, IsAmong, IsNext, Follow, IsSequence, applied_all}
 use Rattle.sv_effect.specs.Laws.{AllAllowed, Differ, BluesMerge, OwnDeps, EightSites}
-use Rattle.sv_effect.proofs.TestLaws.{same_test, other_test}
+use Rattle.sv_app.proofs.TestLaws.{same_test, other_test}
 use Rattle.sv_effect.proofs.TableLaws.{tables_of-more}
 
 order : (a b : ℕ) → (a < b) ⊎ (b ≤ a)

@@ -30,7 +30,7 @@ use Rattle.sv_effect.specs.TablesOfCut.{Family, is_place, at_place, changes_by, 
 use Rattle.sv_effect.specs.Laws.{AllAllowed, Differ, BluesMerge}
 use Rattle.sv_effect.proofs.Members.{Grown}
 use Rattle.sv_effect.proofs.RowLaws.{changed_all, Orderly, Merging, row_more}
-use Rattle.sv_effect.proofs.TestLaws.{same_test, other_test, or_left, or_right, or_assoc}
+use Rattle.sv_app.proofs.TestLaws.{same_test, other_test, or_left, or_right, or_assoc}
 use Rattle.sv_effect.proofs.PlaceListLaws.{among, among-append, names, at_place-none, among-more, among-none}
 use Rattle.sv_effect.proofs.MediumLaws.{orderly, grown_changes, merging}
 

@@ -9,7 +9,7 @@ use Rattle.sv_effect.specs.declared.cells.Cell.{Cell}
 use Rattle.sv_effect.specs.declared.ops.Write.{Write}
 use Rattle.sv_effect.specs.RowChange.{written, made, each}
 use Rattle.sv_effect.specs.Suits.{SuitsAt, with_cell, AllSuit}
-use Rattle.sv_effect.proofs.TestLaws.{same_test, other_test}
+use Rattle.sv_app.proofs.TestLaws.{same_test, other_test}
 
 -- a write in place is not cut or filled up
 pub refill_set : (xs : List Cell) (i : ℕ) (x : Cell) → refill (length xs) xs (slice_set xs i x) ≡ slice_set xs i x

@@ -3,7 +3,7 @@ use Rattle.std.proofs.Common.{◌≡◌, ◌∙◌, ℕ, suc, ◌≤◌, ◌==�
 use Rattle.std.specs.List.{flat_map}
 use Rattle.std.specs.Option.{option_map, is_none}
 use Rattle.std.proofs.lemmas.List.{length-map}
-use Rattle.sv_effect.proofs.TestLaws.{test_same}
+use Rattle.sv_app.proofs.TestLaws.{test_same}
 use Rattle.sv_value.specs.declared.spots.Spot.{Spot}
 use Rattle.sv_app.specs.declared.acts.Act.{Act}
 use Rattle.sv_app.specs.declared.acts.Act.TheVariants as acts
@@ -39,7 +39,7 @@ use Rattle.sv_app.proofs.AcceptedLaws.{front_none, back_none, no_fault}
 use Rattle.sv_trace.specs.Standing.{Frame, names_in, Allows, AreOfColumns, SetsSuit, TypeIs, TableIs, Suits, BlockSuits, AllRead, IsValue, Means}
 use Rattle.sv_trace.proofs.DeclareLaws.{command_declares, block_declares, after, after_append, not_before, HereFrom, here_split, agree_then, agree_fewer, here_number, here_table, block_stays}
 use Rattle.sv_trace.proofs.NamingLaws.{all, in_update, Agree, IsTable, MeaningIs, KnownIs, AllKnown, known_more, UpdatedIs, TermIs, term_is, terms_read, test_reads, bad_fault, found}
-use Rattle.sv_trace.proofs.SchemaLaws.{table_named, column_named, own_first, columns_once}
+use Rattle.sv_app.proofs.SchemaLaws.{table_named, column_named, own_first, columns_once}
 use Rattle.sv_trace.proofs.SlotLaws.{item_here}
 use Rattle.sv_trace.proofs.UnitLaws.{Each, each_left, each_right}
 use Rattle.sv_trace.proofs.UpdateLaws.{same_table}

@@ -16,7 +16,7 @@ use Rattle.sv_app.specs.TxnNumbers.{numbered_name, numbered_command, numbered_bl
 use Rattle.sv_app.specs.Typing.{repeats}
 use Rattle.sv_trace.specs.Standing.{Frame}
 use Rattle.sv_trace.proofs.NamingLaws.{all, Agree, table_declared}
-use Rattle.sv_trace.proofs.SchemaLaws.{own_first, own_place}
+use Rattle.sv_app.proofs.SchemaLaws.{own_first, own_place}
 use Rattle.sv_trace.proofs.SlotLaws.{item_other}
 
 -- the declarations in a block, in the order of the text

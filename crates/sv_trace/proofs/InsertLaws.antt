@@ -32,7 +32,7 @@ use Rattle.sv_effect.specs.Run.{Stand, Flow, Goes, Ends, with_scope, on_value, c
 use Rattle.sv_effect.specs.RunChanges.{Effect, key_in, with_writes, kept_to, insert_of, inserts, kept_values, stands}
 use Rattle.sv_effect.specs.RunValues.{nothing, Scope as Values, with_progress, put, narrow, Gives, then_value, val_of, column, values_of}
 use Rattle.sv_effect.specs.TablesOfCut.{number_in}
-use Rattle.sv_effect.proofs.TestLaws.{same_test}
+use Rattle.sv_app.proofs.TestLaws.{same_test}
 use Rattle.sv_trace.specs.Standing.{Frame, names_in, type_of_val, type_of_got, CommandIn, RowIs, RowAt, Holds, Along, Makes}
 use Rattle.sv_trace.proofs.BlockLaws.{holds_with}
 use Rattle.sv_trace.proofs.ChangeLaws.{changes}

@@ -27,7 +27,7 @@ use Rattle.sv_app.specs.TxnTyping.{is_no_value, value_faults, no_column_of, fiel
 use Rattle.sv_app.specs.Typing.{fault_if}
 use Rattle.sv_app.proofs.AcceptedLaws.{front_none, back_none, no_fault}
 use Rattle.sv_trace.specs.Standing.{Frame, names_in, IsValue, IsRow, Means, Reads, AllRead, TestReads}
-use Rattle.sv_trace.proofs.SchemaLaws.{column_named}
+use Rattle.sv_app.proofs.SchemaLaws.{column_named}
 
 -- names that are spelled alike have one place
 place_same : (names : List Ident) (a b : Ident) → a.name ≡ b.name → place_of a names ≡ place_of b names

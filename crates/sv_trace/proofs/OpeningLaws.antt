@@ -39,7 +39,7 @@ use Rattle.sv_trace.proofs.BodyLaws.{block_suits}
 use Rattle.sv_trace.proofs.DeclareLaws.{block_declares, block_lists, after, HereFrom, here_split, here_number, agree_same, block_stays}
 use Rattle.sv_trace.proofs.LoopLaws.{whole_shaped}
 use Rattle.sv_trace.proofs.NamingLaws.{all, Agree, KnownIs, AllKnown}
-use Rattle.sv_trace.proofs.SchemaLaws.{same_at}
+use Rattle.sv_app.proofs.SchemaLaws.{same_at}
 use Rattle.sv_trace.proofs.UnitLaws.{Each, units_found}
 
 after_length : (k : ℕ) (ds : List Declared) → after k ds ≡ k + length ds

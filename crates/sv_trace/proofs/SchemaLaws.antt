@@ -26,7 +26,7 @@ use Rattle.sv_effect.specs.Fits.{KeyFits}
 use Rattle.sv_effect.specs.RowChange.{zero_of, from_key, key_values, values_from, zero_values}
 use Rattle.sv_effect.specs.RunChanges.{key_in}
 use Rattle.sv_effect.specs.RunValues.{nothing}
-use Rattle.sv_effect.proofs.TestLaws.{test_same}
+use Rattle.sv_app.proofs.TestLaws.{test_same}
 use Rattle.sv_trace.specs.Standing.{type_of_val, type_of_got}
 use Rattle.sv_trace.proofs.WriteLaws.{has_type, type_had, got_type}
 

@@ -2,7 +2,7 @@
 use Rattle.std.proofs.Common.{◌≡◌, ◌∙◌, ℕ, zero, suc, ◌==◌, Bool, true, false, List, [], ◌∷◌, refl, sym, ap, subst, arith}
 use Rattle.std.proofs.lemmas.Bool.Decides.{nat_tests}
 use Rattle.sv_app.specs.Slots.{item, with_item}
-use Rattle.sv_effect.proofs.TestLaws.{test_same}
+use Rattle.sv_app.proofs.TestLaws.{test_same}
 
 pub item_here : {A : Type 0} (d x : A) (n : ℕ) (xs : List A) → item d (with_item d n x xs) n ≡ x
 item_here d x zero [] = refl

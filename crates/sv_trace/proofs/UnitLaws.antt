@@ -5,7 +5,7 @@ use Rattle.sv_app.specs.TxnNumbers.{numbered_name, numbered_command, numbered_bl
 use Rattle.sv_app.specs.Trees.{Command, Declare, Assign, Fetch, Choose, ForRows, ForEach, Insert, Update, Remove, Abort, Reply, Block, Finish, Then}
 use Rattle.sv_app.specs.Typing.{repeats}
 use Rattle.sv_app.specs.Units.{Loop, command_loops, block_loops, units, loop_variables, unit_of}
-use Rattle.sv_effect.proofs.TestLaws.{same_test, other_test}
+use Rattle.sv_app.proofs.TestLaws.{same_test, other_test}
 use Rattle.sv_trace.specs.Standing.{Frame}
 use Rattle.sv_trace.proofs.DeclareLaws.{command_declares, block_declares, after, after_append, HereFrom, here_split, here_number}
 use Rattle.sv_trace.proofs.NamingLaws.{all}

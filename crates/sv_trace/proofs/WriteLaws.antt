@@ -21,7 +21,7 @@ use Rattle.sv_effect.specs.BareTables.{got_of}
 use Rattle.sv_effect.specs.Fits.{is_key_column, WriteFits, IsWrite, AreWrites, AllAbove, Ascending, columns_written}
 use Rattle.sv_effect.specs.RunChanges.{written_got, with_write, with_writes, writes_at, in_order}
 use Rattle.sv_effect.specs.RunValues.{column}
-use Rattle.sv_effect.proofs.TestLaws.{test_same}
+use Rattle.sv_app.proofs.TestLaws.{test_same}
 use Rattle.sv_trace.specs.Standing.{type_of_val, type_of_got}
 use Rattle.sv_trace.proofs.TermLaws.{type_at, type_of_column}
 

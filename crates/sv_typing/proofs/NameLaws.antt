@@ -17,7 +17,8 @@ use Rattle.sv_app.specs.Typing.{repeats}
 use Rattle.sv_typing.proofs.Erased.{map_map}
 use Rattle.sv_typing.proofs.NumberedSchema.{map_same}
 use Rattle.sv_typing.proofs.NumberedTxns.{statements_numbered}
-use Rattle.sv_typing.proofs.PlaceLaws.{left_none, right_none, each_none, mapped_at, map_at, own_number, txns_right}
+use Rattle.sv_app.proofs.AcceptedLaws.{front_none, back_none, each_none}
+use Rattle.sv_typing.proofs.PlaceLaws.{mapped_at, map_at, own_number, txns_right}
 
 abbrev name_in : Declared → Ident
 name_in d = d.name
@@ -25,7 +26,7 @@ name_in d = d.name
 pub txns_by_place : (schema : List Declaration) (txns : List Transaction) (place : ℕ) (t : Transaction) → IsAccepted schema txns → slice_get (numbered_txns schema txns) place ≡ Some t → t.name.num ≡ place
 txns_by_place schema txns place t accepted s =
     let found : (u : Transaction) × (slice_get txns place ≡ Some u) × (numbered_txn schema txns u ≡ t) = mapped_at (numbered_txn schema txns) txns place t s in
-    let once : repeats (txn_names txns) ≡ [] = left_none (repeats (txn_names txns)) (flat_map (λ u. txn_faults schema u) txns) (txns_right schema txns accepted.typed) in
+    let once : repeats (txn_names txns) ≡ [] = front_none (repeats (txn_names txns)) (flat_map (λ u. txn_faults schema u) txns) (txns_right schema txns accepted.typed) in
     ap (λ (u : Transaction). u.name.num) (sym found.2) ∙ own_number (txn_names txns) place found.0.name once (map_at (λ (u : Transaction). u.name) txns place found.0 found.1)
 
 own_name : (by : Naming) (c : Command) → map name_in (declared_by (numbered_command by c)) ≡ map (numbered_name by) (map name_in (declared_by c))
@@ -74,7 +75,7 @@ names_by_place schema txns txn place t name accepted s at_place =
     let stands : slice_get (map (numbered_name by) (names_of found.0)) place ≡ Some name =
     ap (λ (names : List Ident). slice_get names place) (sym (names_numbered schema txns found.0)) ∙ ap (λ (u : Transaction). slice_get (names_of u) place) found.2 ∙ at_place in
     let own : (x : Ident) × (slice_get (names_of found.0) place ≡ Some x) × (numbered_name by x ≡ name) = mapped_at (numbered_name by) (names_of found.0) place name stands in
-    let each : flat_map (λ u. txn_faults schema u) txns ≡ [] = right_none (repeats (txn_names txns)) _ (txns_right schema txns accepted.typed) in
+    let each : flat_map (λ u. txn_faults schema u) txns ≡ [] = back_none (repeats (txn_names txns)) _ (txns_right schema txns accepted.typed) in
     let whole : txn_faults schema found.0 ≡ [] = each_none (λ u. txn_faults schema u) txns txn found.0 each found.1 in
-    let once : repeats (names_of found.0) ≡ [] = left_none (repeats (names_of found.0)) (block_faults (opening schema found.0.params) found.0.body) whole in
+    let once : repeats (names_of found.0) ≡ [] = front_none (repeats (names_of found.0)) (block_faults (opening schema found.0.params) found.0.body) whole in
     ap (λ (x : Ident). x.num) (sym own.2) ∙ own_number (names_of found.0) place own.0 once own.1

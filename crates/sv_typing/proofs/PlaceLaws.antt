@@ -1,13 +1,11 @@
 -- Where no name stands twice the first of a name is the one that stands there; a schema gets one refusal.
-use Rattle.std.proofs.Common.{◌≡◌, ◌<◌, nat_lt, ℕ, suc, zero, Bool, true, false, List, [], ◌∷◌, ◌++◌, refl, sym, ap, ◌∙◌, arith, Some, map, subst}
-use Rattle.std.specs.Cmp.Lexicographic.{nat_list_eq_equiv}
+use Rattle.std.proofs.Common.{◌≡◌, ◌<◌, nat_lt, ℕ, suc, zero, Bool, true, false, List, [], ◌∷◌, ◌++◌, refl, sym, ap, ◌∙◌, arith, Some, map}
 use Rattle.std.specs.List.{slice_get, flat_map}
 use Rattle.std.specs.Option.{option_map, unwrap_or}
 use Rattle.std.proofs.lemmas.Option.{slice_get-map}
 use Rattle.sv_value.specs.declared.spots.Spot.{Spot}
 use Rattle.sv_app.specs.declared.apps.Ident.{Ident}
-use Rattle.sv_app.specs.declared.refusals.Code.{Code}
-use Rattle.sv_app.specs.declared.refusals.Code.TheVariants.{Twice, Cyclic}
+use Rattle.sv_app.specs.declared.refusals.Code.TheVariants.{Cyclic}
 use Rattle.sv_app.specs.declared.refusals.Refusal.{Refusal}
 use Rattle.sv_app.specs.declared.schemas.Column.{Column}
 use Rattle.sv_app.specs.Acceptance.{IsAccepted, IsRefused, ByTyping, ByCycle, ByChecks}
@@ -15,45 +13,17 @@ use Rattle.sv_app.specs.Codes.{number_of}
 use Rattle.sv_app.specs.Firsts.{IsFirst}
 use Rattle.sv_app.specs.References.{IsCyclic}
 use Rattle.sv_app.specs.Satisfiable.{IsUnmet}
+use Rattle.sv_app.proofs.AcceptedLaws.{front_none, back_none, each_none}
+use Rattle.sv_app.proofs.SchemaLaws.{own_place}
 use Rattle.sv_typing.proofs.FirstLaws.{first_is_one}
 use Rattle.sv_typing.proofs.SystemLaws.{unmet}
 use Rattle.std.proofs.lemmas.Bool.Decides.{nat_tests}
-use Rattle.sv_app.specs.Lookups.{is_named, place_of, table_names, column_names}
+use Rattle.sv_app.specs.Lookups.{table_names, column_names}
 use Rattle.sv_app.specs.Numbers.{numbered, numbered_in, numbered_table, numbered_column}
 use Rattle.sv_app.specs.Schema.{Declaration}
 use Rattle.sv_app.specs.Trees.{Transaction}
 use Rattle.sv_app.specs.TxnTyping.{all_faults, txns_faults}
-use Rattle.sv_app.specs.Typing.{fault_if, repeats, faults, table_faults, key_faults, column_faults, rule_faults}
-
-pub left_none : {A : Type 0} (a b : List A) → a ++ b ≡ [] → a ≡ []
-left_none [] b e = refl
-left_none (x ∷ a) b e = absurd cc
-
-pub right_none : {A : Type 0} (a b : List A) → a ++ b ≡ [] → b ≡ []
-right_none [] b e = e
-right_none (x ∷ a) b e = absurd cc
-
-pub each_none : {T A : Type 0} (f : T → List A) (xs : List T) (k : ℕ) (x : T) → flat_map f xs ≡ [] → slice_get xs k ≡ Some x → f x ≡ []
-each_none f [] k x e s = absurd cc
-each_none f (y ∷ ys) zero x e s = let same : y ≡ x = cc in subst (λ z. f z ≡ []) same (left_none (f y) (flat_map f ys) e)
-each_none f (y ∷ ys) (suc k) x e s = each_none f ys k x (right_none (f y) (flat_map f ys) e) s
-
-fault_none : (b : Bool) (spot : Spot) (code : Code) → fault_if b spot code ≡ [] → b ≡ false
-fault_none true spot code e = absurd cc
-fault_none false spot code e = refl
-
-place_own : (names : List Ident) (k : ℕ) (x : Ident) → repeats names ≡ [] → slice_get names k ≡ Some x → place_of x names ≡ Some k
-place_own [] k x e s = absurd cc
-place_own (y ∷ ys) zero x e s =
-    let same : y ≡ x = cc in
-    let itself : is_named y x ≡ true = subst (λ z. is_named y z ≡ true) same (nat_list_eq_equiv.refl y.name) in
-    rw itself refl
-place_own (y ∷ ys) (suc k) x e s =
-    let seconds : List Refusal = flat_map (λ later. fault_if (is_named later y) later.spot Twice) ys in
-    let apart : is_named x y ≡ false = fault_none (is_named x y) x.spot Twice (each_none (λ later. fault_if (is_named later y) later.spot Twice) ys k x (left_none seconds (repeats ys) e) s) in
-    let other : is_named y x ≡ false = nat_list_eq_equiv.symm y.name x.name ∙ apart in
-    let rest : place_of x ys ≡ Some k = place_own ys k x (right_none seconds (repeats ys) e) s in
-    rw (other, rest) refl
+use Rattle.sv_app.specs.Typing.{repeats, faults, table_faults, key_faults, column_faults, rule_faults}
 
 -- what stands at a place of a list that is mapped
 pub mapped_at : {A B : Type 0} (f : A → B) (xs : List A) (k : ℕ) (y : B) → slice_get (map f xs) k ≡ Some y → (x : A) × (slice_get xs k ≡ Some x) × (f x ≡ y)
@@ -65,29 +35,29 @@ pub map_at : {A B : Type 0} (f : A → B) (xs : List A) (k : ℕ) (x : A) → sl
 map_at f xs k x s = slice_get-map f xs k ∙ ap (λ o. option_map f o) s
 
 pub own_number : (names : List Ident) (k : ℕ) (x : Ident) → repeats names ≡ [] → slice_get names k ≡ Some x → (numbered_in names x).num ≡ k
-own_number names k x e s = ap (λ o. unwrap_or o 0) (place_own names k x e s)
+own_number names k x e s = ap (λ o. unwrap_or o 0) (own_place names k x e s)
 
 -- nothing is wrong in the schema where nothing is wrong at all
 pub schema_right : (schema : List Declaration) (txns : List Transaction) → all_faults schema txns ≡ [] → faults schema ≡ []
-schema_right schema txns e = left_none (faults schema) (txns_faults schema txns) e
+schema_right schema txns e = front_none (faults schema) (txns_faults schema txns) e
 
 pub txns_right : (schema : List Declaration) (txns : List Transaction) → all_faults schema txns ≡ [] → txns_faults schema txns ≡ []
-txns_right schema txns e = right_none (faults schema) (txns_faults schema txns) e
+txns_right schema txns e = back_none (faults schema) (txns_faults schema txns) e
 
 pub tables_by_place : (schema : List Declaration) (txns : List Transaction) (place : ℕ) (t : Declaration) → IsAccepted schema txns → slice_get (numbered schema) place ≡ Some t → t.name.num ≡ place
 tables_by_place schema txns place t accepted s =
     let found : (u : Declaration) × (slice_get schema place ≡ Some u) × (numbered_table schema u ≡ t) = mapped_at (numbered_table schema) schema place t s in
-    let once : repeats (table_names schema) ≡ [] = left_none (repeats (table_names schema)) (flat_map (λ u. table_faults schema u) schema) (schema_right schema txns accepted.typed) in
+    let once : repeats (table_names schema) ≡ [] = front_none (repeats (table_names schema)) (flat_map (λ u. table_faults schema u) schema) (schema_right schema txns accepted.typed) in
     ap (λ (u : Declaration). u.name.num) (sym found.2) ∙ own_number (table_names schema) place found.0.name once (map_at (λ (u : Declaration). u.name) schema place found.0 found.1)
 
 columns_once : (schema : List Declaration) (table : ℕ) (u : Declaration) → faults schema ≡ [] → slice_get schema table ≡ Some u → repeats (column_names u) ≡ []
 columns_once schema table u typed s =
-    let each : flat_map (λ v. table_faults schema v) schema ≡ [] = right_none (repeats (table_names schema)) _ typed in
+    let each : flat_map (λ v. table_faults schema v) schema ≡ [] = back_none (repeats (table_names schema)) _ typed in
     let whole : table_faults schema u ≡ [] = each_none (λ v. table_faults schema v) schema table u each s in
     let rules : List Refusal = flat_map (λ inv. rule_faults schema u inv.rule) u.invs in
-    let front : key_faults u ++ column_faults u ≡ [] = left_none (key_faults u ++ column_faults u) rules whole in
-    let columns : column_faults u ≡ [] = right_none (key_faults u) (column_faults u) front in
-    left_none (repeats (column_names u)) _ columns
+    let front : key_faults u ++ column_faults u ≡ [] = front_none (key_faults u ++ column_faults u) rules whole in
+    let columns : column_faults u ≡ [] = back_none (key_faults u) (column_faults u) front in
+    front_none (repeats (column_names u)) _ columns
 
 pub columns_by_place : (schema : List Declaration) (txns : List Transaction) (table place : ℕ) (t : Declaration) (c : Column) → IsAccepted schema txns
     → slice_get (numbered schema) table ≡ Some t → slice_get t.columns place ≡ Some c → c.name.num ≡ place

@@ -6,7 +6,7 @@ use Rattle.sv_app.specs.Tables.{place_cmp}
 use Rattle.sv_check.specs.Initial.{IsFirst}
 use Rattle.sv_check.specs.Tests.{held_cmp, held_of, is_held, first_failed}
 use Rattle.sv_check.proofs.AnswerLaws.{Passed, as_told, one_passed, held_more, is_first, all_valid, not_valid}
-use Rattle.sv_check.proofs.ListLaws.{get_at}
+use Rattle.sv_app.proofs.ListLaws.{get_at}
 use Rattle.sv_check.proofs.initial.check_all.Goals as goal
 
 pub returns-in-Some-clause-answer : goal.returns-in-Some-clause-answer
