@@ -1,8 +1,8 @@
 -- The tables that a store starts with are those of the initial rows.
-use Rattle.std.proofs.Common.{◌≡◌, ℕ, suc, ◌||◌, if◌then◌else◌, cond, Bool, true, false, List, [], ◌∷◌, ◌++◌, Option, Some, None, slice_get, refl, sym, ap, subst, ◌∙◌, arith}
+use Rattle.std.proofs.Common.{◌≡◌, ℕ, suc, ◌||◌, if◌then◌else◌, cond, Bool, true, false, List, [], ◌∷◌, Some, None, slice_get, refl, sym, ap, subst, ◌∙◌, arith}
 use Rattle.std.specs.Prelude.{map, All}
 use Rattle.std.specs.Option.{option_map}
-use Rattle.std.specs.FinMap.{get, same_map}
+use Rattle.std.specs.FinMap.{same_map}
 use Rattle.std.proofs.lemmas.Map.Views.{tells_apart}
 use Rattle.sv_value.specs.declared.values.Val.{Val}
 use Rattle.sv_value.specs.declared.values.Val.TheVariants.{Int, Text}
@@ -17,43 +17,18 @@ use Rattle.sv_app.specs.Accepted.{AcceptedSchema}
 use Rattle.sv_app.specs.Schema.{Declaration}
 use Rattle.sv_app.proofs.AcceptedLaws.{counter_is_int}
 use Rattle.sv_app.proofs.PlaceLaws.{place_total, exact_places}
-use Rattle.sv_effect.specs.StampedTables.{StampedRow}
-use Rattle.sv_effect.specs.RowChange.{cell_from, cells_from, row_from}
-use Rattle.sv_effect.specs.Applied.{columns_of, columns_in, annotated_in, zeros_in}
+use Rattle.sv_effect.specs.RowChange.{cell_from, cells_from}
+use Rattle.sv_effect.specs.Applied.{columns_of, columns_in}
 use Rattle.sv_effect.specs.BareTables.{got_of, value_of, bare_row, bare}
 use Rattle.sv_effect.specs.Cut.{empty}
 use Rattle.sv_effect.specs.Fits.{HasType}
 use Rattle.sv_effect.specs.Initial.{ValuesFit, InitFits}
-use Rattle.sv_effect.specs.TablesOfCut.{is_place, init_place, initial, values_or, is_there, row_at, named_by, all_to, changes_at, tables_held}
-use Rattle.sv_effect.proofs.PlaceListLaws.{among, among-append}
+use Rattle.sv_effect.specs.TablesOfCut.{is_place, init_place, initial, tables_held}
+use Rattle.sv_effect.proofs.InitialLaws.{start_row, get-start}
+use Rattle.sv_effect.proofs.PlaceListLaws.{among}
 use Rattle.sv_effect.proofs.SourceLaws.{get-bare}
-use Rattle.sv_effect.proofs.TableLaws.{get-tables_by, row-bare}
 use Rattle.sv_check.specs.Initial.{initial_row, initial_tables, StoresStart}
 use Rattle.sv_check.proofs.InitialLaws.{initial_at, get-initial}
-
--- the row at a place, of what stands there from the start
-abbrev start_row : List Declaration → Place → Option (List Val) → StampedRow
-start_row schema q o = row_from (columns_in schema q) (values_or (zeros_in schema q) o) (is_there o)
-
-none_named : all_to (λ o. named_by (empty o)) 9 ≡ []
-unfolding all_to
-none_named = refl
-
-or-false : (a : Bool) → (a || false) ≡ a
-or-false true = refl
-or-false false = refl
-
-get-start : (schema : List Declaration) (init : List InitRow) (q : Place)
-    → get (tables_held schema init empty) q ≡ (if among q (map init_place init) then Some (start_row schema q (initial q init)) else None)
-get-start schema init q =
-    get-tables_by (map init_place init ++ all_to (λ o. named_by (empty o)) 9) (row_at schema init empty) q
-    ∙ (λ i. if places i then Some (row i) else None)
-  where
-    places : among q (map init_place init ++ all_to (λ o. named_by (empty o)) 9) ≡ among q (map init_place init)
-    places = among-append q (map init_place init) (all_to (λ o. named_by (empty o)) 9) ∙ ap (λ l. among q (map init_place init) || among q l) none_named ∙ or-false (among q (map init_place init))
-
-    row : row_at schema init empty q ≡ start_row schema q (initial q init)
-    row = row-bare (annotated_in schema q) (columns_in schema q) (values_or (zeros_in schema q) (initial q init)) (is_there (initial q init)) (changes_at q empty) (λ o lt. refl)
 
 -- counters are integers
 abbrev CountInts : List Column → Type 0

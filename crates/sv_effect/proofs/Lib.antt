@@ -3,7 +3,9 @@ pub mod CommuteLaws
 pub mod FitLaws
 pub mod FollowLaws
 pub mod GreatestLaws
+pub mod InitialLaws
 pub mod KeptLaws
+pub mod KeyedLaws
 pub mod KeyLaws
 pub mod LaidLaws
 pub mod MediumLaws

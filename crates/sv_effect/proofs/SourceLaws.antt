@@ -1,6 +1,6 @@
 -- Tables without their stamps, and rows that are of an application.
 use Rattle.std.proofs.Common.{◌≡◌, ◌≢◌, ℕ, suc, ◌+◌, cond, ◌&&◌, T, Bool, true, false, List, [], ◌∷◌, ◌++◌, Some, slice_get, ◌<◌, ◌≤◌, length, take, get_or, refl, sym, ap, subst, ◌∙◌, arith}
-use Rattle.std.specs.Prelude.{map}
+use Rattle.std.specs.Prelude.{map, Option, None, unwrap_or}
 use Rattle.std.specs.Option.{option_map}
 use Rattle.std.specs.declared.cmp.Ordering.{Ordering}
 use Rattle.std.specs.Ordering.{is_eq, is_lt}
@@ -26,16 +26,18 @@ use Rattle.sv_app.proofs.PlaceLaws.{place_total, exact_places}
 use Rattle.sv_effect.specs.declared.cells.Cell.{Cell}
 use Rattle.sv_effect.specs.declared.cells.Cell.TheVariants.{Count, Last, Plain}
 use Rattle.sv_effect.specs.StampedTables.{StampedRow, StampedTables}
-use Rattle.sv_effect.specs.Applied.{Change, place_of, columns_of, with_change_at}
+use Rattle.sv_effect.specs.Applied.{Change, place_of, columns_of, zeros_of, annotated_in, zero_row_in, changed_at, with_change_at}
 use Rattle.sv_effect.specs.Fits.{HasType, CellFits, CellsFit, CountsFit, FitsSchema}
+use Rattle.sv_effect.specs.RowChange.{changed, row_from}
 use Rattle.sv_effect.specs.TablesOfCut.{is_place}
 use Rattle.sv_effect.specs.Commutes.{TablesFit}
 use Rattle.sv_effect.specs.BareTables.{got_of, value_of, bare_row, bare}
 use Rattle.sv_effect.specs.Agrees.{seen_in, seen_at}
-use Rattle.sv_effect.specs.RowsFit.{NumberFits, GotFits, GotsFit, ValuesAreOf, SeenFits, RowIsOf, TablesAreOf}
+use Rattle.sv_effect.specs.RowsFit.{NumberFits, GotFits, GotsFit, KeyIsOf, ValuesAreOf, SeenFits, HoldsKey, RowStands, AllStand, RowIsOf, TablesAreOf}
 use Rattle.sv_effect.specs.Takes.{row_left}
 use Rattle.sv_effect.specs.Words.{IsWordVal, HasWord, HaveWords}
 use Rattle.sv_effect.proofs.KeptLaws.{change_kept}
+use Rattle.sv_effect.proofs.KeyedLaws.{key_stays, zero_key}
 
 -- a map with its values changed
 module _ {K X Y : Type 0} (R : K → K → Ordering) (f : X → Y) where
@@ -106,10 +108,11 @@ values_fit (column ∷ columns) (cell ∷ cells) int fits narrow words =
 
 -- what is told of a row of the application fits
 pub row_fits : (schema : List Declaration) (place : Place) (row : StampedRow) → HaveWords row.cells → AcceptedSchema schema → RowIsOf schema place row → SeenFits schema place (seen_in (Some (bare_row row)))
-row_fits schema place row words accepted of = record {
-  key = of.key;
-  fits = values_fit of.key.table.columns row.cells (λ n column at is. counter_is_int schema accepted place.table n of.key.table column of.key.declared at is) of.cells of.counts words;
-}
+row_fits schema place row words accepted of =
+    let key : KeyIsOf schema place = of.stands.key in record {
+      key = key;
+      fits = values_fit key.table.columns row.cells (λ n column at is. counter_is_int schema accepted place.table n key.table column key.declared at is) of.stands.cells of.counts words;
+    }
 
 pub told_fits : (schema : List Declaration) (place : Place) (row : StampedRow) (values : List Got) → values ≡ map value_of row.cells → HaveWords row.cells → AcceptedSchema schema → RowIsOf schema place row
     → ValuesAreOf schema place values
@@ -144,10 +147,16 @@ tells_more cells number values new cell got lt is tells value word pushed = reco
 pub all_words : (cells : List Cell) (number : ℕ) → length cells ≤ number → HaveWords (take number cells) → HaveWords cells
 all_words cells number le words = subst HaveWords (take_all number cells le) words
 
+pub all_stand : (schema : List Declaration) (t : StampedTables) → TablesAreOf schema t → AllStand schema t
+all_stand schema t of place row at = (of.rows place row at).stands
+
 pub fit_rows : (schema : List Declaration) (t : StampedTables) → TablesAreOf schema t → TablesFit schema t
 fit_rows schema t of place row at =
-    let fits = of.rows place row at in
+    let fits : RowStands schema place row = (of.rows place row at).stands in
     subst (λ columns. CellsFit columns row.cells) (ap columns_of (sym fits.key.declared)) fits.cells
+
+same_table : (a b : Declaration) → Some a ≡ Some b → a ≡ b
+same_table a b e = cc
 
 same_row : (a b : StampedRow) → Some a ≡ Some b → a ≡ b
 same_row a b e = cc
@@ -163,19 +172,34 @@ inserted_is_of schema t place row of new = record { accepted = of.accepted; rows
         split true is e = subst (λ p. RowIsOf schema p found) (sym (tells_apart exact_places q place is)) (subst (RowIsOf schema place) (same_row row found e) new)
         split false is e = of.rows q found e
 
-same_place : (p : Place) → is_place p p ≡ true
+pub same_place : (p : Place) → is_place p p ≡ true
 same_place p = (eq_by_cmp_equiv place_total).refl p
 
 -- a change of a row that leaves its counts in their bounds
 pub change_is_of : (schema : List Declaration) (c : Change) (t : StampedTables) → FitsSchema schema c.value → CountsFit (row_left schema c t).cells → TablesAreOf schema t
     → TablesAreOf schema (with_change_at schema (place_of c.value) c t)
 change_is_of schema c t fits counts of = inserted_is_of schema t (place_of c.value) (row_left schema c t) of (record {
-  key = record { table = fits.table; declared = fits.declared; fits = fits.fits.key };
-  cells = subst (λ columns. CellsFit columns (row_left schema c t).cells) (ap columns_of fits.declared)
-      (change_kept schema c t (no_lists schema of.accepted) fits (fit_rows schema t of) (place_of c.value) (row_left schema c t) here);
+  stands = record {
+    key = record { table = fits.table; declared = fits.declared; fits = fits.fits.key };
+    cells = subst (λ columns. CellsFit columns (row_left schema c t).cells) (ap columns_of fits.declared)
+        (change_kept schema c t (no_lists schema of.accepted) fits (fit_rows schema t of) (place_of c.value) (row_left schema c t) here);
+    keyed = keyed (get t (place_of c.value)) refl;
+  };
   counts = counts;
 })
   where
     here : get (with_change_at schema (place_of c.value) c t) (place_of c.value) ≡ Some (row_left schema c t)
     here = get-insert place_total t (place_of c.value) (row_left schema c t) (place_of c.value)
         ∙ ap (λ b. cond b (Some (row_left schema c t)) (get t (place_of c.value))) (same_place (place_of c.value))
+
+    annotated : Bool
+    annotated = annotated_in schema (place_of c.value)
+
+    keyed : (o : Option StampedRow) → get t (place_of c.value) ≡ o → HoldsKey fits.table c.value.key (bare_row (changed_at schema (place_of c.value) c (unwrap_or o (zero_row_in schema (place_of c.value)))))
+    keyed None e = subst (λ d. HoldsKey fits.table c.value.key (bare_row (changed annotated c.stamp c.value (row_from (columns_of d) (zeros_of d c.value.key) false)))) (sym fits.declared)
+        (zero_key schema of.accepted c.value.table fits.table annotated c.stamp c.value fits.declared fits.fits)
+    keyed (Some x) e =
+        let old : RowStands schema (place_of c.value) x = all_stand schema t of (place_of c.value) x e in
+        let same : old.key.table ≡ fits.table = same_table old.key.table fits.table (sym old.key.declared ∙ fits.declared) in
+        key_stays fits.table c.value.key annotated c.stamp c.value x fits.fits.key fits.fits
+        (subst (λ d. CellsFit d.columns x.cells) same old.cells) (subst (λ d. HoldsKey d c.value.key (bare_row x)) same old.keyed)

@@ -1,7 +1,12 @@
--- Rows are of an application: each that is kept stands in one of its tables, under a key of that table, and has a value of its type for each column;
--- sums of counters lie between -2^100 and 2^100, and other integers are of 64 bits.
+-- Rows are of an application: each that is kept stands in one of its tables, under a key of that table, which its key
+-- columns show, and has a value of its type for each column; sums of counters lie between -2^100 and 2^100, and other
+-- integers are of 64 bits.
 use Rattle.std.specs.Prelude.{◌≡◌, ℤ, pos, neg_ℤ, ◌^◌, ◌≤ℤ◌, ◌<ℤ◌, Bool, true, false, List, [], ◌∷◌, Some, slice_get}
 use Rattle.std.specs.FinMap.{get}
+use Rattle.std.specs.List.{Contains}
+use Rattle.sv_value.specs.declared.values.Key.{Key}
+use Rattle.sv_value.specs.declared.values.Val.{Val}
+use Rattle.sv_app.specs.declared.apps.Ident.{Ident}
 use Rattle.sv_app.specs.declared.gots.Got.{Got}
 use Rattle.sv_app.specs.declared.gots.Got.TheVariants.{Num, Text as IsText}
 use Rattle.sv_app.specs.declared.places.Place.{Place}
@@ -11,6 +16,10 @@ use Rattle.sv_app.specs.declared.schemas.Merge.TheVariants.{Plain, Lww, NumDelta
 use Rattle.sv_app.specs.declared.schemas.Ty.TheVariants as types
 use Rattle.sv_app.specs.Accepted.{AcceptedSchema}
 use Rattle.sv_app.specs.Schema.{Declaration}
+use Rattle.sv_app.specs.Tables.{Row}
+use Rattle.sv_app.specs.Valid.{value_of}
+use Rattle.sv_effect.specs.BareTables.{got_of, bare_row}
+use Rattle.sv_effect.specs.Needs.{key_value}
 use Rattle.sv_effect.specs.StampedTables.{StampedRow, StampedTables}
 use Rattle.sv_effect.specs.RowChange.{key_values}
 use Rattle.sv_effect.specs.Fits.{KeyFits, CellsFit, IsNarrow, CountsFit}
@@ -53,10 +62,23 @@ RowFits schema place false present values = (present ≡ false) × (values ≡ [
 abbrev pub SeenFits : List Declaration → Place → SeenValue → Type 0
 SeenFits schema place seen = RowFits schema place seen.kept seen.present seen.values
 
--- a row with its stamps is of the application
-pub record RowIsOf (schema : List Declaration) (place : Place) (row : StampedRow) : Type 0 where
+-- each key column has the value that the key gives it
+abbrev pub HoldsKey : Declaration → Key → Row → Type 0
+HoldsKey table key row =
+    (column : Ident) (v : Val) → Contains (key_value table.key (key_values key) column.num) v → value_of row column ≡ got_of v
+
+-- a row with its stamps stands in its table: under a key of the table, with a cell for each column, and it holds the key
+pub record RowStands (schema : List Declaration) (place : Place) (row : StampedRow) : Type 0 where
   pub key : KeyIsOf schema place
   pub cells : CellsFit key.table.columns row.cells
+  pub keyed : HoldsKey key.table place.key (bare_row row)
+
+abbrev pub AllStand : List Declaration → StampedTables → Type 0
+AllStand schema t = (place : Place) (row : StampedRow) → get t place ≡ Some row → RowStands schema place row
+
+-- and its counts lie in their bounds
+pub record RowIsOf (schema : List Declaration) (place : Place) (row : StampedRow) : Type 0 where
+  pub stands : RowStands schema place row
   pub counts : CountsFit row.cells
 
 -- the application is accepted, and each row is of it

@@ -14,44 +14,20 @@ use Rattle.sv_app.specs.Schema.{Declaration, declaration_of, schema_of}
 use Rattle.sv_app.proofs.AcceptedLaws.{narrow}
 use Rattle.sv_app.specs.Tables.{place_cmp}
 use Rattle.sv_app.proofs.PlaceLaws.{place_total, exact_places}
+use Rattle.sv_app.proofs.TestLaws.{or_none}
 use Rattle.sv_effect.specs.StampedTables.{StampedRow}
-use Rattle.sv_effect.specs.RowChange.{cells_from, row_from}
-use Rattle.sv_effect.specs.Applied.{columns_of, columns_in, annotated_in, zeros_in}
-use Rattle.sv_effect.specs.Fits.{CellsFit, CountsFit}
-use Rattle.sv_effect.specs.RowsFit.{RowIsOf, TablesAreOf}
+use Rattle.sv_effect.specs.RowChange.{row_from}
+use Rattle.sv_effect.specs.Applied.{columns_of}
+use Rattle.sv_effect.specs.Fits.{CountsFit}
+use Rattle.sv_effect.specs.RowsFit.{RowStands, RowIsOf, TablesAreOf}
 use Rattle.sv_effect.specs.Cut.{empty}
-use Rattle.sv_effect.specs.TablesOfCut.{is_place, init_place, initial, values_or, is_there, row_at, named_by, all_to, changes_at, tables_held}
-use Rattle.sv_effect.proofs.PlaceListLaws.{among, among-append}
-use Rattle.sv_effect.proofs.KeptLaws.{from_fits}
+use Rattle.sv_effect.specs.TablesOfCut.{is_place, init_place, initial, tables_held}
+use Rattle.sv_effect.proofs.PlaceListLaws.{among}
+use Rattle.sv_effect.proofs.InitialLaws.{start_row, get-start, init_stands}
 use Rattle.sv_effect.proofs.SourceLaws.{inserted_is_of}
-use Rattle.sv_effect.proofs.TableLaws.{get-tables_by, row-bare}
 use Rattle.sv_store.specs.Initial.{ValuesFit, InitFits, AreDistinct}
 use Rattle.sv_store.specs.Stored.{Stored, HasRoom, room_after, with_row}
 use Rattle.sv_store.proofs.TakeLaws.{declared_as, is_declared}
-
--- the row at a place, of what stands there from the start
-abbrev start_row : List Declaration → Place → Option (List Val) → StampedRow
-start_row schema q o = row_from (columns_in schema q) (values_or (zeros_in schema q) o) (is_there o)
-
-none_named : all_to (λ o. named_by (empty o)) 9 ≡ []
-unfolding all_to
-none_named = refl
-
-or-false : (a : Bool) → (a || false) ≡ a
-or-false true = refl
-or-false false = refl
-
-get-init : (schema : List Declaration) (init : List InitRow) (q : Place)
-    → get (tables_held schema init empty) q ≡ (if among q (map init_place init) then Some (start_row schema q (initial q init)) else None)
-get-init schema init q =
-    get-tables_by (map init_place init ++ all_to (λ o. named_by (empty o)) 9) (row_at schema init empty) q
-    ∙ (λ i. if places i then Some (row i) else None)
-  where
-    places : among q (map init_place init ++ all_to (λ o. named_by (empty o)) 9) ≡ among q (map init_place init)
-    places = among-append q (map init_place init) (all_to (λ o. named_by (empty o)) 9) ∙ ap (λ l. among q (map init_place init) || among q l) none_named ∙ or-false (among q (map init_place init))
-
-    row : row_at schema init empty q ≡ start_row schema q (initial q init)
-    row = row-bare (annotated_in schema q) (columns_in schema q) (values_or (zeros_in schema q) (initial q init)) (is_there (initial q init)) (changes_at q empty) (λ o lt. refl)
 
 abbrev one_more : Place → InitRow → Bool → Option (List Val) → Option (List Val)
 one_more q x b o = if b then o else if is_place q (init_place x) then Some x.values else None
@@ -66,7 +42,7 @@ initial-push q (y ∷ xs) x = split (is_place q (init_place y)) (initial-push q 
     split false ih = ih
 
 among-push : (q : Place) (xs : List InitRow) (x : InitRow) → among q (map init_place (xs ++ x ∷ [])) ≡ (among q (map init_place xs) || is_place q (init_place x))
-among-push q [] x = or-false (is_place q (init_place x))
+among-push q [] x = or_none (is_place q (init_place x))
 among-push q (y ∷ xs) x = split (is_place q (init_place y)) (among-push q xs x)
   where
     split : (b : Bool) → among q (map init_place (xs ++ x ∷ [])) ≡ (among q (map init_place xs) || is_place q (init_place x))
@@ -77,10 +53,10 @@ among-push q (y ∷ xs) x = split (is_place q (init_place y)) (among-push q xs x
 tables_held-push : (schema : List Declaration) (xs : List InitRow) (x : InitRow) → among (init_place x) (map init_place xs) ≡ false
     → tables_held schema (xs ++ x ∷ []) empty ≡ insert (tables_held schema xs empty) (init_place x) (start_row schema (init_place x) (Some x.values))
 tables_held-push schema xs x new = same_map place_total exact_places _ _ (λ q.
-    get-init schema (xs ++ x ∷ []) q
+    get-start schema (xs ++ x ∷ []) q
     ∙ (λ i. if among-push q xs x i then Some (start_row schema q (initial-push q xs x i)) else None)
     ∙ split q (among q (map init_place xs)) (is_place q (init_place x)) refl refl
-    ∙ ap (cond (is_place q (init_place x)) (Some (start_row schema (init_place x) (Some x.values)))) (sym (get-init schema xs q))
+    ∙ ap (cond (is_place q (init_place x)) (Some (start_row schema (init_place x) (Some x.values)))) (sym (get-start schema xs q))
     ∙ sym (get-insert place_total (tables_held schema xs empty) (init_place x) (start_row schema (init_place x) (Some x.values)) q))
   where
     split : (q : Place) (a b : Bool) → among q (map init_place xs) ≡ a → is_place q (init_place x) ≡ b
@@ -106,13 +82,13 @@ new_place (y ∷ init) (suc i) d distinct lt = apart (is_place (init_place (get_
     apart false is rest = rest
 
 pub init_none : (schema : List Declaration) → empty_tables ≡ tables_held schema [] empty
-init_none schema = same_map place_total exact_places _ _ (λ q. get-empty place_cmp q ∙ sym (get-init schema [] q))
+init_none schema = same_map place_total exact_places _ _ (λ q. get-empty place_cmp q ∙ sym (get-start schema [] q))
 
 -- the place of the next row is free
 pub init_free : (schema : List Declaration) (init : List InitRow) (i : ℕ) (x : InitRow) → AreDistinct init → i < length init → x ≡ get_or init i x
     → get (tables_held schema (take i init) empty) (init_place x) ≡ None
 init_free schema init i x distinct lt is =
-    get-init schema (take i init) (init_place x)
+    get-start schema (take i init) (init_place x)
     ∙ ap (λ b. if b then Some (start_row schema (init_place x) (initial (init_place x) (take i init))) else None)
     (ap (λ y. among (init_place y) (map init_place (take i init))) is ∙ new_place init i x distinct lt)
 
@@ -130,12 +106,6 @@ pub init_room : (schema : List Declaration) (init : List InitRow) (room i : ℕ)
 init_room schema init room i s x distinct lt is started =
     let some : 1 ≤ s.room = omega (arith, lt, started.left) in
     subst (λ o. HasRoom o s.room) (sym (ap (λ t. get t (init_place x)) started.tables ∙ init_free schema init i x distinct lt is)) some
-
-cells_fit : (columns : List Column) (vs : List Val) → ValuesFit columns vs → CellsFit columns (cells_from columns vs)
-cells_fit [] [] fits = tt
-cells_fit [] (v ∷ vs) fits = absurd fits
-cells_fit (column ∷ columns) [] fits = absurd fits
-cells_fit (column ∷ columns) (v ∷ vs) fits = (from_fits column v column.merge refl fits.0, cells_fit columns vs fits.1)
 
 pub init_more : (schema : List Declaration) (init : List InitRow) (room i : ℕ) (s new : Stored) (x : InitRow) (table : Declaration) (p : Place) (row : StampedRow) → AreDistinct init → i < length init
     → x ≡ get_or init i x → slice_get schema x.table ≡ Some table → Started schema init room i s → p ≡ init_place x → row ≡ row_from table.columns x.values true → CountsFit row.cells → InitFits schema x → new ≡ with_row s p row
@@ -163,11 +133,11 @@ init_more schema init room i s new x table p row distinct lt is declared started
     fewer : new.room ≡ s.room - 1
     fewer = ap (λ s. s.room) made ∙ ap (λ o. room_after o s.room) none
 
-    cells : CellsFit fit.table.columns row.cells
-    cells = subst (λ r. CellsFit fit.table.columns r.cells) (sym (start ∙ ap (λ t. row_from t.columns x.values true) (same_table table fit.table (sym declared ∙ fit.declared)))) (cells_fit fit.table.columns x.values fit.values)
+    stands : RowStands schema (init_place x) row
+    stands = subst (RowStands schema (init_place x)) (sym (start ∙ ap (λ t. row_from t.columns x.values true) (same_table table fit.table (sym declared ∙ fit.declared)))) (init_stands schema x started.of.accepted fit)
 
     row_of_app : RowIsOf schema p row
-    row_of_app = subst (λ q. RowIsOf schema q row) (sym place) (record { key = record { table = fit.table; declared = fit.declared; fits = fit.key }; cells = cells; counts = counts })
+    row_of_app = subst (λ q. RowIsOf schema q row) (sym place) (record { stands = stands; counts = counts })
 
     of : TablesAreOf schema new.tables
     of = subst (TablesAreOf schema) (sym (ap (λ s. s.tables) made)) (inserted_is_of schema s.tables p row started.of row_of_app)

@@ -217,7 +217,7 @@ kept_at t table key there = from (get t (place_at table key)) refl (sym (ap (λ 
 pub next_fits : (t : StampedTables) (table : ℕ) (after next : Option Key) → IsNextKey (bare t) table after next
     → IfSome next (λ key. (schema : List Declaration) → TablesAreOf schema t → KeyIsOf schema (place_at table key))
 next_fits t table after None is = tt
-next_fits t table after (Some key) is = λ schema of. let kept = kept_at t table key is.1 in (of.rows (place_at table key) kept.row kept.stands).key
+next_fits t table after (Some key) is = λ schema of. let kept = kept_at t table key is.1 in (of.rows (place_at table key) kept.row kept.stands).stands.key
 
 -- fewer pass a narrower test, if one is left out
 fewer : (p q : Place → Bool) → ((x : Place) → p x ≡ true → q x ≡ true) → (es : List (Place × StampedRow)) → length (filter (λ e. p e.0) es) ≤ length (filter (λ e. q e.0) es)
