@@ -11,13 +11,11 @@ use Rattle.sv_app.specs.declared.schemas.Merge.{Merge}
 use Rattle.sv_app.specs.declared.schemas.Merge.TheVariants.{NumDelta, Lww, Plain}
 use Rattle.sv_app.specs.Lookups.{holds_of}
 use Rattle.sv_app.specs.Schema.{Declaration}
-use Rattle.sv_app.specs.Slots.{with_item}
 use Rattle.sv_app.specs.Tables.{place_cmp, Row}
 use Rattle.sv_app.specs.Typing.{is_numdelta}
 use Rattle.sv_app.proofs.PlaceLaws.{exact_places}
 use Rattle.sv_effect.specs.declared.ops.Write.{Write}
 use Rattle.sv_effect.specs.declared.ops.Write.TheVariants.{Delta, Set}
-use Rattle.sv_effect.specs.BareTables.{got_of}
 use Rattle.sv_effect.specs.declared.ops.RowEffect.{RowEffect}
 use Rattle.sv_effect.specs.declared.left.LeftRow.{LeftRow}
 use Rattle.sv_effect.specs.Agrees.{seen_in}
@@ -30,46 +28,9 @@ use Rattle.sv_effect.specs.Words.{IsWordGot, AreWordGots}
 use Rattle.sv_effect.proofs.OverlayLaws.{left_here, left_past, found_by}
 use Rattle.sv_effect.proofs.WordLaws.{set_word}
 use Rattle.sv_effect.specs.TablesOfCut.{is_place}
-use Rattle.sv_check.specs.Bounds.{HasRoom, HaveRoom, IsWordWrite, AreWordWrites, is_counter, AreBounded, IsBounded, LeftBounded, ChangesBounded}
-
--- what holds of each column holds still where an item of which it holds is put
-pub put_all : (P : ℕ → Got → Type 0) (row : List Got) (c : ℕ) (x : Got) → ((d : ℕ) → P d (column row d)) → P c x → (d : ℕ) → P d (column (with_item (Num (pos 0)) c x row) d)
-put_all P [] zero x h p zero = p
-put_all P [] zero x h p (suc d) = h (suc d)
-put_all P [] (suc c) x h p zero = h zero
-put_all P [] (suc c) x h p (suc d) = put_all (λ n. P (suc n)) [] c x (λ n. h (suc n)) p d
-put_all P (y ∷ row) zero x h p zero = p
-put_all P (y ∷ row) zero x h p (suc d) = h (suc d)
-put_all P (y ∷ row) (suc c) x h p zero = h zero
-put_all P (y ∷ row) (suc c) x h p (suc d) = put_all (λ n. P (suc n)) row c x (λ n. h (suc n)) p d
-
--- behind the end stands zero
-pub behind : (row : List Got) → column row (length row) ≡ Num (pos 0)
-behind [] = refl
-behind (x ∷ row) = behind row
-
-pub room_less : (k m : ℕ) (got : Got) → k ≤ m → HasRoom m got → HasRoom k got
-room_less k m (Num n) le h = (omega (arith, ints, le, h.0), omega (arith, ints, le, h.1))
-room_less k m (Text text) le h = tt
-
--- a word has as much room as zero with one write more
-word_room : (k : ℕ) (got : Got) → HasRoom (suc k) (Num (pos 0)) → IsWordGot got → HasRoom k got
-word_room k (Num n) zeroes h = (omega (arith, ints, zeroes.0, zeroes.1, h.0, h.1), omega (arith, ints, zeroes.0, zeroes.1, h.0, h.1))
-word_room k (Text text) zeroes h = tt
-
-written_room : (k : ℕ) (w : Write) (got : Got) → HasRoom (suc k) (Num (pos 0)) → HasRoom (suc k) got → IsWordWrite w → HasRoom k (written_got w got)
-written_room k (Set v) got zeroes h word = word_room k (got_of v) zeroes (set_word v word)
-written_room k (Delta d) (Num n) zeroes h word = (omega (arith, ints, h.0, h.1, word.0, word.1), omega (arith, ints, h.0, h.1, word.0, word.1))
-written_room k (Delta d) (Text text) zeroes h word = tt
-
-pub write_room : (k n : ℕ) (w : ℕ × Write) (row : List Got) → k < n → HaveRoom n row → IsWordWrite w.1 → HaveRoom k (with_write w row)
-write_room k n w row less h word = record {
-  each = put_all (λ c. HasRoom k) row w.0 (written_got w.1 (column row w.0)) (λ c. room_less k n (column row c) (omega (arith, less)) (h.each c))
-      (written_room k w.1 (column row w.0) (subst (HasRoom (suc k)) (behind row) (more (length row))) (more w.0) word);
-}
-  where
-    more : (c : ℕ) → HasRoom (suc k) (column row c)
-    more c = room_less (suc k) n (column row c) (omega (arith, less)) (h.each c)
+use Rattle.sv_effect.specs.Room.{HasRoom, IsWordWrite, AreWordWrites}
+use Rattle.sv_effect.proofs.RoomLaws.{put_all, room_less, write_room}
+use Rattle.sv_check.specs.Bounds.{is_counter, AreBounded, IsBounded, LeftBounded, ChangesBounded}
 
 -- a write to a column of the table
 word_kept : (table : Declaration) (w : ℕ × Write) (got : Got) → IsWrite table w.0 w.1 → IsWordWrite w.1 → is_counter (Some table) w.0 ≡ false → IsWordGot (written_got w.1 got)
@@ -96,15 +57,6 @@ writes_bounded table k n [] row le are words before = record {
 }
 writes_bounded table k n (w ∷ ws) row le are words before =
     writes_bounded table k (length ws + k) ws (with_write w row) (omega arith) are.1 words.1 (write_bounded table (length ws + k) n w row (omega (arith, le)) are.0 words.0 before)
-
--- room for writes in the code
-pub first_room : (k : ℕ) (row : List Got) (c : ℕ) → HaveRoom k row → 1 ≤ k → HasRoom 1 (column row c)
-first_room k row c h le = room_less 1 k (column row c) le (h.each c)
-
-pub rest_room : (k n : ℕ) (c : ℕ) (w : Write) (row new : List Got) → HaveRoom n row → k < n → IsWordWrite w → new ≡ with_write (c, w) row → HaveRoom k new
-rest_room k n c w row new h less word is = subst (HaveRoom k) (sym is) (write_room k n (c, w) row less h word)
-
-pub ruleset writing = (first_room, rest_room)
 
 -- more room is room
 bounded_less : (table : Option Declaration) (k n : ℕ) (values : List Got) → k ≤ n → AreBounded table n values → AreBounded table k values
@@ -195,9 +147,6 @@ pub row_bounded : (schema : List Declaration) (e : RowEffect) (k : ℕ) (old new
 row_bounded schema e k old new fits few words is h =
     subst (λ o. AreBounded o k new) (sym fits.declared) (subst (AreBounded (Some fits.table) k) (sym is)
     (writes_bounded fits.table k (16 + k) e.writes.items old (omega (arith, few)) fits.fits.writes words (subst (λ o. AreBounded o (16 + k) old) fits.declared h)))
-
-pub room_few : (k n : ℕ) (old new : List Got) → k ≤ n → new ≡ old → HaveRoom n old → HaveRoom k new
-room_few k n old new le is h = subst (HaveRoom k) (sym is) (record { each = λ c. room_less k n (column old c) le (h.each c) })
 
 -- one change more
 pub change_bounded : (schema : List Declaration) (place : Place) (row : LeftRow) (left new : List (Place × LeftRow)) → length left < 64 → ChangesBounded schema left

@@ -1,34 +1,15 @@
--- How far numbers go: so many further writes keep a counter within 2^126, and other integers are of 64 bits.
-use Rattle.std.specs.Prelude.{◌≡◌, ℕ, ◌-◌, ◌*◌, ◌^◌, pos, neg_ℤ, ◌+ℤ◌, ◌-ℤ◌, ◌≤ℤ◌, Bool, false, List, [], ◌∷◌, length, Option, Some, None, slice_get}
+-- How far numbers go: there is room for so many further writes, and integers that are no counters are of 64 bits.
+use Rattle.std.specs.Prelude.{◌≡◌, ℕ, ◌-◌, ◌*◌, Bool, false, List, [], ◌∷◌, length, Option, Some, None, slice_get}
 use Rattle.sv_app.specs.declared.gots.Got.{Got}
-use Rattle.sv_app.specs.declared.gots.Got.TheVariants.{Num, Text}
 use Rattle.sv_app.specs.declared.places.Place.{Place}
 use Rattle.sv_app.specs.Lookups.{holds_of}
 use Rattle.sv_app.specs.Schema.{Declaration}
 use Rattle.sv_app.specs.Tables.{Row}
 use Rattle.sv_app.specs.Typing.{is_numdelta}
-use Rattle.sv_effect.specs.declared.ops.Write.{Write}
-use Rattle.sv_effect.specs.declared.ops.Write.TheVariants.{Delta, Set}
 use Rattle.sv_effect.specs.declared.left.LeftRow.{LeftRow}
-use Rattle.sv_effect.specs.RowsFit.{IsWord}
+use Rattle.sv_effect.specs.Room.{HaveRoom}
 use Rattle.sv_effect.specs.RunValues.{column}
-use Rattle.sv_effect.specs.Words.{IsWordVal, IsWordGot}
-
-abbrev pub HasRoom : ℕ → Got → Type 0
-HasRoom writes (Num n) = (neg_ℤ (pos (2 ^ 126)) ≤ℤ (n -ℤ pos (writes * 2 ^ 63))) × ((n +ℤ pos (writes * 2 ^ 63)) ≤ℤ pos (2 ^ 126))
-HasRoom writes (Text text) = Unit {0}
-
--- each column does
-pub record HaveRoom (writes : ℕ) (values : List Got) : Type 0 where
-  pub each : (number : ℕ) → HasRoom writes (column values number)
-
-abbrev pub IsWordWrite : Write → Type 0
-IsWordWrite (Delta d) = IsWord d
-IsWordWrite (Set v) = IsWordVal v
-
-abbrev pub AreWordWrites : List (ℕ × Write) → Type 0
-AreWordWrites [] = Unit {0}
-AreWordWrites (w ∷ ws) = IsWordWrite w.1 × AreWordWrites ws
+use Rattle.sv_effect.specs.Words.{IsWordGot}
 
 -- whether the column of that number is a counter
 abbrev pub is_counter : Option Declaration → ℕ → Bool

@@ -16,10 +16,9 @@ ghost use Rattle.sv_effect.specs.Words.{AreWordGots};
 ghost use Rattle.sv_check.specs.Bounds.{IsBounded, LeftBounded, ChangesBounded};
 ghost use Rattle.sv_check.specs.Left.{start_of};
 
-use crate::writes::make_writes;
 use std::alloc::Global;
 use sv_app::{Act, App, Got, Place};
-use sv_effect::{Halt, LeftRow, RowEffect, Rows, look, zeros};
+use sv_effect::{Halt, LeftRow, RowEffect, Rows, look, make_writes, zeros};
 use sv_value::{List, NoMemory};
 
 /// Whether a row is present after the act.

@@ -11,7 +11,6 @@ mod laws;
 mod least;
 mod rules;
 mod verdicts;
-mod writes;
 
 pub use after::check_after;
 pub use initial::check_all;

@@ -15,6 +15,7 @@ pub mod NewerLaws
 pub mod OverlayLaws
 pub mod PlaceListLaws
 pub mod Promises
+pub mod RoomLaws
 pub mod RowLaws
 pub mod SequenceLaws
 pub mod SlotLaws

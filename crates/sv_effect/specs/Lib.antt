@@ -16,6 +16,7 @@ pub mod Needs
 pub mod Newer
 pub mod Overlays
 pub mod Reads
+pub mod Room
 pub mod RowChange
 pub mod RowsFit
 pub mod Run

@@ -14,6 +14,7 @@ mod reads;
 mod rows;
 mod seen;
 mod values;
+mod writes;
 
 pub use asks::{ask_after, ask_next, ask_row};
 pub use cells::{Cell, Row};
@@ -30,3 +31,4 @@ pub use reads::{Ask, Halt, Read, Seen, Told};
 pub use rows::{RowStore, Rows};
 pub use sv_app::Got;
 pub use values::{column, got_of, key_values, prepend, put_got, zeros};
+pub use writes::make_writes;

@@ -1,8 +1,9 @@
 use Rattle.std.proofs.Common.{rules, ◌≡◌, ◌≤◌, ◌+◌, length, arith}
 use Rattle.sv_app.specs.Schema.{schema_of}
 use Rattle.sv_effect.specs.RunChanges.{with_writes}
-use Rattle.sv_check.specs.Bounds.{AreWordWrites}
-use Rattle.sv_check.proofs.BoundLaws.{room_few, row_bounded}
+use Rattle.sv_effect.specs.Room.{AreWordWrites}
+use Rattle.sv_effect.proofs.RoomLaws.{room_few}
+use Rattle.sv_check.proofs.BoundLaws.{row_bounded}
 use Rattle.sv_check.proofs.changes.row_after.Goals as goal
 
 pub make_writes-requires : goal.make_writes-requires

@@ -4,10 +4,11 @@ ghost use Rattle.std.specs.Prelude.{◌≡◌, ◌+ℤ◌, length, OnOk};
 ghost use Rattle.sv_app.specs.declared.gots.Got.TheVariants as gots;
 ghost use Rattle.sv_effect.specs.RunChanges.{written_got, with_write, with_writes};
 ghost use Rattle.sv_effect.specs.RunValues.{column};
-ghost use Rattle.sv_check.specs.Bounds.{HasRoom, HaveRoom, IsWordWrite, AreWordWrites};
+ghost use Rattle.sv_effect.specs.Room.{HasRoom, HaveRoom, IsWordWrite, AreWordWrites};
 
+use crate::ops::Write;
+use crate::values::{column, got_of, put_got};
 use sv_app::Got;
-use sv_effect::{Write, column, got_of, put_got};
 use sv_value::NoMemory;
 
 fn sum(number: i128, delta: i64) -> i128
@@ -43,7 +44,7 @@ fn make_write(row: &mut Vec<Got>, col: u16, write: &Write) -> Result<(), NoMemor
 }
 
 /// Makes writes to the values of a row, one after the other. There is room for them.
-#[tactic(auto, using(crate::proofs::BoundLaws::writing))]
+#[tactic(auto, using(crate::proofs::RoomLaws::writing))]
 pub fn make_writes(row: &mut Vec<Got>, writes: &[(u16, Write)]) -> Result<(), NoMemory>
     requires { HaveRoom (length writes.now) row.old.items }
     ensures value { OnOk result (row.new.items ≡ with_writes writes.now row.old.items) }
