@@ -57,15 +57,43 @@ last_part {A} {B} {P} f b l t =
 part_last : {A B : Type 0} {P : A → List Token → Type 0} (f : A → B) (b : B) (l : List Token) → Made f P b l → Then P (λ a. Is (f a)) b l
 part_last f b l m = record { head = m.«from»; parts = record { front = l; back = []; whole = sym (append-nil l); first = m.is; then = record { empty = refl; is = m.made } } }
 
+last_made : {A B : Type 0} (P : A → List Token → Type 0) (f : A → B) (b : B) (l : List Token) → Then P (λ a. Is (f a)) b l → Made f P b l
+last_made P f b l t = record { «from» = t.head; is = last_part f b l t; made = t.parts.then.is }
+
+-- a value made of two parts, and of one behind a token
+
+two_made : {A T B : Type 0} (f : A → T → B) (P : A → List Token → Type 0) (R : A → T → List Token → Type 0) (b : B) (l : List Token) → Then P (λ a. Made (f a) (R a)) b l → Made (λ (x : A × T). f x.0 x.1) (λ x. P x.0 · R x.0 x.1) b l
+two_made f P R b l t = record {
+  «from» = (t.head, t.parts.then.«from»);
+  is = record { front = t.parts.front; back = t.parts.back; whole = t.parts.whole; first = t.parts.first; then = t.parts.then.is };
+  made = t.parts.then.made;
+}
+
+made_two : {A T B : Type 0} (f : A → T → B) (P : A → List Token → Type 0) (R : A → T → List Token → Type 0) (b : B) (l : List Token) → Made (λ (x : A × T). f x.0 x.1) (λ x. P x.0 · R x.0 x.1) b l → Then P (λ a. Made (f a) (R a)) b l
+made_two f P R b l m = record {
+  head = m.«from».0;
+  parts = record { front = m.is.front; back = m.is.back; whole = m.is.whole; first = m.is.first; then = record { «from» = m.«from».1; is = m.is.then; made = m.made } };
+}
+
+token_made : {T B : Type 0} (k : TokenKind) (f : T → B) (R : T → List Token → Type 0) (b : B) (l : List Token) → Then (placed k) (λ _. Made f R) b l → Made f (λ t. kind k · R t) b l
+token_made k f R b l t = record {
+  «from» = t.parts.then.«from»;
+  is = record { front = t.parts.front; back = t.parts.back; whole = t.parts.whole; first = kind_some k t.head t.parts.front t.parts.first; then = t.parts.then.is };
+  made = t.parts.then.made;
+}
+
+made_token : {T B : Type 0} (k : TokenKind) (f : T → B) (R : T → List Token → Type 0) (b : B) (l : List Token) → Made f (λ t. kind k · R t) b l → Then (placed k) (λ _. Made f R) b l
+made_token k f R b l m = record {
+  head = m.is.first.token.spot;
+  parts = record { front = m.is.front; back = m.is.back; whole = m.is.whole; first = kind_placed k m.is.front m.is.first; then = record { «from» = m.«from»; is = m.is.then; made = m.made } };
+}
+
 -- the last part, of which the value is made
 pub take_last : {matter : Matter} {A B : Type 0} {clash : List Token → Bool} {P PS : A → List Token → Type 0} {Bad : List Token → ReadFault → Type 0} {p : List Token → Read A} (f : A → B)
     → Lawful matter clash P PS Bad p → Lawful matter clash (Made f P) (Made f PS) Bad (λ tokens. p tokens >>= λ a r. Ok (f a, r))
 take_last {matter} {A} {B} {clash} {P} {PS} {Bad} {p} f law = same_languages
     (after law (λ a. ret matter clash (f a)) (λ a b tokens rest is ends. subst (λ l. clash (l ++ rest) ≡ false) (sym is.empty) ends) (λ tokens fault is. is) (λ tokens a rest fault took is. absurd is))
-    (into P) (part_last f) (into PS) (part_last f) (λ tokens fault is. is)
-  where
-    into : (P : A → List Token → Type 0) (b : B) (l : List Token) → Then P (λ a. Is (f a)) b l → Made f P b l
-    into P b l t = record { «from» = t.head; is = last_part f b l t; made = t.parts.then.is }
+    (last_made P f) (part_last f) (last_made PS f) (part_last f) (λ tokens fault is. is)
 
 -- a part, and behind it others
 pub take : {matter : Matter} {A T B : Type 0} {before clash : List Token → Bool} {P PS : A → List Token → Type 0} {R RS : A → T → List Token → Type 0} {PBad Bad : List Token → ReadFault → Type 0} {QBad : A → List Token → ReadFault → Type 0}
@@ -77,20 +105,7 @@ pub take : {matter : Matter} {A T B : Type 0} {before clash : List Token → Boo
     → Lawful matter clash (Made (λ (x : A × T). f x.0 x.1) (λ x. P x.0 · R x.0 x.1)) (Made (λ (x : A × T). f x.0 x.1) (λ x. PS x.0 · RS x.0 x.1)) Bad (λ tokens. p tokens >>= q)
 take {matter} {A} {T} {B} {before} {clash} {P} {PS} {R} {RS} {PBad} {Bad} {QBad} {p} {q} f first second clear bad worse = same_languages
     (after first second (λ a b tokens rest is ends. clear a is.«from» tokens rest is.is ends) bad worse)
-    (into P R) (out P R) (into PS RS) (out PS RS) (λ tokens fault is. is)
-  where
-    into : (P : A → List Token → Type 0) (R : A → T → List Token → Type 0) (b : B) (l : List Token) → Then P (λ a. Made (f a) (R a)) b l → Made (λ (x : A × T). f x.0 x.1) (λ x. P x.0 · R x.0 x.1) b l
-    into P R b l t = record {
-      «from» = (t.head, t.parts.then.«from»);
-      is = record { front = t.parts.front; back = t.parts.back; whole = t.parts.whole; first = t.parts.first; then = t.parts.then.is };
-      made = t.parts.then.made;
-    }
-
-    out : (P : A → List Token → Type 0) (R : A → T → List Token → Type 0) (b : B) (l : List Token) → Made (λ (x : A × T). f x.0 x.1) (λ x. P x.0 · R x.0 x.1) b l → Then P (λ a. Made (f a) (R a)) b l
-    out P R b l m = record {
-      head = m.«from».0;
-      parts = record { front = m.is.front; back = m.is.back; whole = m.is.whole; first = m.is.first; then = record { «from» = m.«from».1; is = m.is.then; made = m.made } };
-    }
+    (two_made f P R) (made_two f P R) (two_made f PS RS) (made_two f PS RS) (λ tokens fault is. is)
 
 -- where the first part may be followed by anything, and nothing passes a limit
 pub take_plain : {matter : Matter} {A T B : Type 0} {clash : List Token → Bool} {P : A → List Token → Type 0} {R : A → T → List Token → Type 0} {p : List Token → Read A} {q : A → List Token → Read B} (f : A → T → B)
@@ -104,20 +119,7 @@ pub skip : {matter : Matter} {T B : Type 0} {clash : List Token → Bool} {R RS 
     → Lawful matter clash (Made f (λ t. kind k · R t)) (Made f (λ t. kind k · RS t)) Bad (λ tokens. kind_at k tokens >>= λ _ r. q r)
 skip {matter} {T} {B} {clash} {R} {RS} {QBad} {Bad} {q} k f law worse = same_languages
     (after (kind_law matter anything k) (λ _. law) (λ a b tokens rest is ends. refl) (λ tokens fault is. absurd is) worse)
-    (into R) (out R) (into RS) (out RS) (λ tokens fault is. is)
-  where
-    into : (R : T → List Token → Type 0) (b : B) (l : List Token) → Then (placed k) (λ _. Made f R) b l → Made f (λ t. kind k · R t) b l
-    into R b l t = record {
-      «from» = t.parts.then.«from»;
-      is = record { front = t.parts.front; back = t.parts.back; whole = t.parts.whole; first = kind_some k t.head t.parts.front t.parts.first; then = t.parts.then.is };
-      made = t.parts.then.made;
-    }
-
-    out : (R : T → List Token → Type 0) (b : B) (l : List Token) → Made f (λ t. kind k · R t) b l → Then (placed k) (λ _. Made f R) b l
-    out R b l m = record {
-      head = m.is.first.token.spot;
-      parts = record { front = m.is.front; back = m.is.back; whole = m.is.whole; first = kind_placed k m.is.front m.is.first; then = record { «from» = m.«from»; is = m.is.then; made = m.made } };
-    }
+    (token_made k f R) (made_token k f R) (token_made k f RS) (made_token k f RS) (λ tokens fault is. is)
 
 pub skip_plain : {matter : Matter} {T B : Type 0} {clash : List Token → Bool} {R : T → List Token → Type 0} {q : List Token → Read B} (k : TokenKind) (f : T → B)
     → Plain matter clash (Made f R) q → Plain matter clash (Made f (λ t. kind k · R t)) (λ tokens. kind_at k tokens >>= λ _ r. q r)
@@ -149,10 +151,7 @@ pub take_last_limited : {matter : Matter} {A B : Type 0} {clash : List Token →
     → Limited matter clash P PS p → Limited matter clash (Made f P) (Made f PS) (λ tokens. p tokens >>= λ a r. Ok (f a, r))
 take_last_limited {matter} {A} {B} {clash} {P} {PS} {p} f law = same_limited
     (after_limited law (λ a. limited (ret matter clash (f a))) (λ a b tokens rest is ends. subst (λ l. clash (l ++ rest) ≡ false) (sym is.empty) ends))
-    (into P) (part_last f) (into PS) (part_last f)
-  where
-    into : (P : A → List Token → Type 0) (b : B) (l : List Token) → Then P (λ a. Is (f a)) b l → Made f P b l
-    into P b l t = record { «from» = t.head; is = last_part f b l t; made = t.parts.then.is }
+    (last_made P f) (part_last f) (last_made PS f) (part_last f)
 
 pub take_limited : {matter : Matter} {A T B : Type 0} {before clash : List Token → Bool} {P PS : A → List Token → Type 0} {R RS : A → T → List Token → Type 0} {p : List Token → Read A} {q : A → List Token → Read B} (f : A → T → B)
     → Limited matter before P PS p → ((a : A) → Limited matter clash (Made (f a) (R a)) (Made (f a) (RS a)) (q a))
@@ -160,36 +159,10 @@ pub take_limited : {matter : Matter} {A T B : Type 0} {before clash : List Token
     → Limited matter clash (Made (λ (x : A × T). f x.0 x.1) (λ x. P x.0 · R x.0 x.1)) (Made (λ (x : A × T). f x.0 x.1) (λ x. PS x.0 · RS x.0 x.1)) (λ tokens. p tokens >>= q)
 take_limited {matter} {A} {T} {B} {before} {clash} {P} {PS} {R} {RS} {p} {q} f first second clear = same_limited
     (after_limited first second (λ a b tokens rest is ends. clear a is.«from» tokens rest is.is ends))
-    (into P R) (out P R) (into PS RS) (out PS RS)
-  where
-    into : (P : A → List Token → Type 0) (R : A → T → List Token → Type 0) (b : B) (l : List Token) → Then P (λ a. Made (f a) (R a)) b l → Made (λ (x : A × T). f x.0 x.1) (λ x. P x.0 · R x.0 x.1) b l
-    into P R b l t = record {
-      «from» = (t.head, t.parts.then.«from»);
-      is = record { front = t.parts.front; back = t.parts.back; whole = t.parts.whole; first = t.parts.first; then = t.parts.then.is };
-      made = t.parts.then.made;
-    }
-
-    out : (P : A → List Token → Type 0) (R : A → T → List Token → Type 0) (b : B) (l : List Token) → Made (λ (x : A × T). f x.0 x.1) (λ x. P x.0 · R x.0 x.1) b l → Then P (λ a. Made (f a) (R a)) b l
-    out P R b l m = record {
-      head = m.«from».0;
-      parts = record { front = m.is.front; back = m.is.back; whole = m.is.whole; first = m.is.first; then = record { «from» = m.«from».1; is = m.is.then; made = m.made } };
-    }
+    (two_made f P R) (made_two f P R) (two_made f PS RS) (made_two f PS RS)
 
 pub skip_limited : {matter : Matter} {T B : Type 0} {clash : List Token → Bool} {R RS : T → List Token → Type 0} {q : List Token → Read B} (k : TokenKind) (f : T → B)
     → Limited matter clash (Made f R) (Made f RS) q → Limited matter clash (Made f (λ t. kind k · R t)) (Made f (λ t. kind k · RS t)) (λ tokens. kind_at k tokens >>= λ _ r. q r)
 skip_limited {matter} {T} {B} {clash} {R} {RS} {q} k f law = same_limited
     (after_limited (limited (kind_law matter anything k)) (λ _. law) (λ a b tokens rest is ends. refl))
-    (into R) (out R) (into RS) (out RS)
-  where
-    into : (R : T → List Token → Type 0) (b : B) (l : List Token) → Then (placed k) (λ _. Made f R) b l → Made f (λ t. kind k · R t) b l
-    into R b l t = record {
-      «from» = t.parts.then.«from»;
-      is = record { front = t.parts.front; back = t.parts.back; whole = t.parts.whole; first = kind_some k t.head t.parts.front t.parts.first; then = t.parts.then.is };
-      made = t.parts.then.made;
-    }
-
-    out : (R : T → List Token → Type 0) (b : B) (l : List Token) → Made f (λ t. kind k · R t) b l → Then (placed k) (λ _. Made f R) b l
-    out R b l m = record {
-      head = m.is.first.token.spot;
-      parts = record { front = m.is.front; back = m.is.back; whole = m.is.whole; first = kind_placed k m.is.front m.is.first; then = record { «from» = m.«from»; is = m.is.then; made = m.made } };
-    }
+    (token_made k f R) (made_token k f R) (token_made k f RS) (made_token k f RS)

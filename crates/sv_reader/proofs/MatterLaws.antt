@@ -1,5 +1,5 @@
 -- What of a grammar its limits are about: which parts pass none by themselves, and which elements may pass one.
-use Rattle.std.proofs.Common.{◌≡◌, ◌∙◌, ◌⊎◌, inl, inr, List, [], ◌∷◌, ◌++◌, refl, append-nil}
+use Rattle.std.proofs.Common.{◌≡◌, ◌⊎◌, inl, inr, List, [], ◌∷◌, ◌++◌, refl}
 use Rattle.sv_lex.specs.declared.marks.Mark.TheVariants.{Comma}
 use Rattle.sv_lex.specs.declared.tokens.Token.{Token}
 use Rattle.sv_lex.specs.declared.tokens.TokenKind.{TokenKind}

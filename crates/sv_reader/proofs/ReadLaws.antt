@@ -5,7 +5,7 @@ use Rattle.sv_app.specs.declared.refusals.Code.TheVariants.{Syntax, Many}
 use Rattle.sv_reader.specs.declared.faults.ReadFault.{ReadFault}
 use Rattle.sv_reader.specs.Grammar.{Both, One}
 use Rattle.sv_reader.specs.Reading.{Read, ◌>>=◌, refuse, found_at, token_at}
-use Rattle.sv_reader.proofs.AnswerLaws.{Alike, alike_same, alike_behind, anything, same_read, Bound, bound, bound_err, then_ok, then_err}
+use Rattle.sv_reader.proofs.AnswerLaws.{Alike, alike_behind, near, anything, same_read, Bound, bound, bound_err, then_ok, then_err}
 use Rattle.sv_reader.proofs.MatterLaws.{Matter}
 
 -- something may begin with these tokens
@@ -29,27 +29,37 @@ pub record Took {A : Type 0} (L : A → List Token → Type 0) (read : List Toke
   pub is : L item front
   pub again : (last : List Token) → Alike rest last → read (front ++ last) ≡ Ok (item, last)
 
--- no rule allows what stands behind the front
-pub record Stuck (matter : Matter) {A : Type 0} (All Small : A → List Token → Type 0) (read : List Token → Read A) (tokens : List Token) (fault : ReadFault) : Type 0 where
+-- no rule allows what stands behind the front, of which this holds
+pub record StuckAt {A : Type 0} (All : A → List Token → Type 0) (Small : List Token → Type 0) (read : List Token → Read A) (tokens : List Token) (fault : ReadFault) : Type 0 where
   pub front : List Token
   pub rest : List Token
   pub whole : tokens ≡ front ++ rest
   pub place : fault ≡ record { code = Syntax; left = length rest }
-  pub small : Open matter Small front
+  pub small : Small front
   pub begins : Start All front
   pub again : (last : List Token) → Alike rest last → read (front ++ last) ≡ refuse Syntax last
 
--- the element behind the front passes a limit
-pub record Over (matter : Matter) {A : Type 0} (All Small : A → List Token → Type 0) (read : List Token → Read A) (tokens : List Token) (fault : ReadFault) : Type 0 where
+-- the element behind the front, of which this holds, passes a limit
+pub record OverAt (matter : Matter) {A : Type 0} (All : A → List Token → Type 0) (Small : List Token → Type 0) (read : List Token → Read A) (tokens : List Token) (fault : ReadFault) : Type 0 where
   pub front : List Token
   pub element : List Token
   pub rest : List Token
   pub whole : tokens ≡ front ++ element ++ rest
   pub place : fault ≡ record { code = Many; left = length (element ++ rest) }
   pub is : matter.IsElement element
-  pub small : Open matter Small front
+  pub small : Small front
   pub begins : Start All (front ++ element)
   pub again : (last : List Token) → read (front ++ element ++ last) ≡ refuse Many (element ++ last)
+
+-- one of the two
+abbrev pub Misread : (matter : Matter) → {A : Type 0} → (A → List Token → Type 0) → (List Token → Type 0) → (List Token → Read A) → List Token → ReadFault → Type 0
+Misread matter All Small read tokens fault = StuckAt All Small read tokens fault ⊎ OverAt matter All Small read tokens fault
+
+abbrev pub Stuck : (matter : Matter) → {A : Type 0} → (A → List Token → Type 0) → (A → List Token → Type 0) → (List Token → Read A) → List Token → ReadFault → Type 0
+Stuck matter All Small read tokens fault = StuckAt All (Open matter Small) read tokens fault
+
+abbrev pub Over : (matter : Matter) → {A : Type 0} → (A → List Token → Type 0) → (A → List Token → Type 0) → (List Token → Read A) → List Token → ReadFault → Type 0
+Over matter All Small read tokens fault = OverAt matter All (Open matter Small) read tokens fault
 
 -- something passes a limit
 pub record Passes {A : Type 0} (answer : Read A) : Type 0 where
@@ -200,6 +210,54 @@ alike_element matter {element} front is rest last = let some = matter.headed ele
     subst (λ l. Alike l (front ++ element ++ last)) (sym (append_assoc front element rest)) (subst (λ l. Alike (front ++ (element ++ rest)) l) (sym (append_assoc front element last))
     (alike_behind front (element ++ rest) (element ++ last) (subst (λ l. Alike (l ++ rest) (l ++ last)) (sym some.whole) refl)))
 
+-- what was misread behind other tokens
+
+pub regroup : (before front element l : List Token) → before ++ (front ++ element ++ l) ≡ before ++ front ++ element ++ l
+regroup before front element l = sym (append_assoc before (front ++ element) l) ∙ ap (λ x. x ++ l) (sym (append_assoc before front element))
+
+pub start_less : {A : Type 0} {L : A → List Token → Type 0} (front element : List Token) → Start L (front ++ element) → Start L front
+start_less {A} {L} front element start = record { more = element ++ start.more; item = start.item; is = subst (λ l. L start.item l) (append_assoc front element start.more) start.is }
+
+pub stuck_behind : {A B : Type 0} {P : A → List Token → Type 0} {Q : B → List Token → Type 0} {Small Whole : List Token → Type 0} {p : List Token → Read A} {q : List Token → Read B} {tokens rest : List Token} {fault : ReadFault}
+    (before : List Token) → tokens ≡ before ++ rest → ((l : List Token) → Start P l → Start Q (before ++ l))
+    → ((front more : List Token) → rest ≡ front ++ more → Start P front → Small front → Whole (before ++ front))
+    → ((last : List Token) → Alike rest last → (other : ReadFault) → p last ≡ Err other → q (before ++ last) ≡ Err other) → StuckAt P Small p rest fault → StuckAt Q Whole q tokens fault
+stuck_behind {A} {B} {P} {Q} {Small} {Whole} {p} {q} {tokens} {rest} {fault} before whole start small same stuck = record {
+  front = before ++ stuck.front;
+  rest = stuck.rest;
+  whole = whole ∙ ap (λ l. before ++ l) stuck.whole ∙ sym (append_assoc before stuck.front stuck.rest);
+  place = stuck.place;
+  small = small stuck.front stuck.rest stuck.whole stuck.begins stuck.small;
+  begins = start stuck.front stuck.begins;
+  again = λ last alike. ap q (append_assoc before stuck.front last)
+      ∙ same (stuck.front ++ last) (near stuck.front stuck.rest last rest stuck.whole alike) (record { code = Syntax; left = length last }) (stuck.again last alike);
+}
+
+pub over_behind : {matter : Matter} {A B : Type 0} {P : A → List Token → Type 0} {Q : B → List Token → Type 0} {Small Whole : List Token → Type 0} {p : List Token → Read A} {q : List Token → Read B} {tokens rest : List Token} {fault : ReadFault}
+    (before : List Token) → tokens ≡ before ++ rest → ((l : List Token) → Start P l → Start Q (before ++ l))
+    → ((front more : List Token) → rest ≡ front ++ more → Start P front → Small front → Whole (before ++ front))
+    → ((last : List Token) → Alike rest last → (other : ReadFault) → p last ≡ Err other → q (before ++ last) ≡ Err other) → OverAt matter P Small p rest fault → OverAt matter Q Whole q tokens fault
+over_behind {matter} {A} {B} {P} {Q} {Small} {Whole} {p} {q} {tokens} {rest} {fault} before whole start small same over = record {
+  front = before ++ over.front;
+  element = over.element;
+  rest = over.rest;
+  whole = whole ∙ ap (λ l. before ++ l) over.whole ∙ regroup before over.front over.element over.rest;
+  place = over.place;
+  is = over.is;
+  small = small over.front (over.element ++ over.rest) (over.whole ∙ append_assoc over.front over.element over.rest) (start_less over.front over.element over.begins) over.small;
+  begins = subst (λ l. Start Q l) (sym (append_assoc before over.front over.element)) (start (over.front ++ over.element) over.begins);
+  again = λ last.
+      let alike : Alike rest (over.front ++ over.element ++ last) = subst (λ l. Alike l (over.front ++ over.element ++ last)) (sym over.whole) (alike_element matter over.front over.is over.rest last) in
+      ap q (sym (regroup before over.front over.element last)) ∙ same (over.front ++ over.element ++ last) alike (record { code = Many; left = length (over.element ++ last) }) (over.again last);
+}
+
+pub misread_behind : {matter : Matter} {A B : Type 0} {P : A → List Token → Type 0} {Q : B → List Token → Type 0} {Small Whole : List Token → Type 0} {p : List Token → Read A} {q : List Token → Read B} {tokens rest : List Token} {fault : ReadFault}
+    (before : List Token) → tokens ≡ before ++ rest → ((l : List Token) → Start P l → Start Q (before ++ l))
+    → ((front more : List Token) → rest ≡ front ++ more → Start P front → Small front → Whole (before ++ front))
+    → ((last : List Token) → Alike rest last → (other : ReadFault) → p last ≡ Err other → q (before ++ last) ≡ Err other) → Misread matter P Small p rest fault → Misread matter Q Whole q tokens fault
+misread_behind before whole start small same (inl stuck) = inl (stuck_behind before whole start small same stuck)
+misread_behind before whole start small same (inr over) = inr (over_behind before whole start small same over)
+
 -- one reading behind another
 
 pub took_then : {A B : Type 0} {P : A → List Token → Type 0} {Q : A → B → List Token → Type 0} (p : List Token → Read A) (q : A → List Token → Read B)
@@ -214,49 +272,40 @@ took_then {A} {B} {P} {Q} p q tokens head rest item last first second = record {
       ap (λ l. p l >>= q) (append_assoc first.front second.front other) ∙ then_ok q (first.again (second.front ++ other) near) ∙ second.again other alike;
 }
 
+-- the first of two parts may begin, and so may the second behind a first one
+
+pub start_first : {A B : Type 0} (P : A → List Token → Type 0) (Q : A → B → List Token → Type 0) → ((a : A) → Start (Q a) []) → (front : List Token) → Start P front → Start (Then P Q) front
+start_first P Q some front start = let next = some start.item in record {
+  more = start.more ++ next.more;
+  item = next.item;
+  is = subst (λ l. Then P Q next.item l) (append_assoc front start.more next.more) (then_parts P Q start.item next.item (front ++ start.more) next.more start.is next.is);
+}
+
+pub start_behind : {A B : Type 0} (P : A → List Token → Type 0) (Q : A → B → List Token → Type 0) (head : A) (before : List Token) → P head before → (front : List Token) → Start (Q head) front → Start (Then P Q) (before ++ front)
+start_behind P Q head before is front start = record {
+  more = start.more;
+  item = start.item;
+  is = subst (λ l. Then P Q start.item l) (sym (append_assoc before front start.more)) (then_parts P Q head start.item before (front ++ start.more) is start.is);
+}
+
 -- the first of two parts is stuck
 stuck_first : {matter : Matter} {A B : Type 0} {P PS : A → List Token → Type 0} {Q QS : A → B → List Token → Type 0} (p : List Token → Read A) (q : A → List Token → Read B)
     → ((a : A) → Start (Q a) []) → ((a : A) → Start (QS a) []) → (tokens : List Token) (fault : ReadFault)
     → Stuck matter P PS p tokens fault → Stuck matter (Then P Q) (Then PS QS) (λ l. p l >>= q) tokens fault
-stuck_first {matter} {A} {B} {P} {PS} {Q} {QS} p q some small tokens fault stuck = record {
-  front = stuck.front;
-  rest = stuck.rest;
-  whole = stuck.whole;
-  place = stuck.place;
-  small = open_map [] (λ shorter start. goes_on PS QS small shorter start) stuck.small;
-  begins = goes_on P Q some stuck.front stuck.begins;
-  again = λ last alike. then_err q (stuck.again last alike);
-}
-  where
-    goes_on : (P : A → List Token → Type 0) (Q : A → B → List Token → Type 0) → ((a : A) → Start (Q a) []) → (front : List Token) → Start P front → Start (Then P Q) front
-    goes_on P Q some front start = let next = some start.item in record {
-      more = start.more ++ next.more;
-      item = next.item;
-      is = subst (λ l. Then P Q next.item l) (append_assoc front start.more next.more) (then_parts P Q start.item next.item (front ++ start.more) next.more start.is next.is);
-    }
+stuck_first {matter} {A} {B} {P} {PS} {Q} {QS} p q some small tokens fault stuck = stuck_behind [] refl (start_first P Q some)
+    (λ front more whole begins opened. open_map [] (start_first PS QS small) opened) (λ last alike other e. then_err q e) stuck
 
 -- the second of two parts is stuck
 stuck_second : {matter : Matter} {A B : Type 0} {P PS : A → List Token → Type 0} {Q QS : A → B → List Token → Type 0} (p : List Token → Read A) (q : A → List Token → Read B)
     (tokens : List Token) (head : A) (rest : List Token) (fault : ReadFault)
     → ((l : List Token) → PS head l → P head l) → Took PS p tokens head rest → Stuck matter (Q head) (QS head) (q head) rest fault → Stuck matter (Then P Q) (Then PS QS) (λ l. p l >>= q) tokens fault
-stuck_second {matter} {A} {B} {P} {PS} {Q} {QS} p q tokens head rest fault inside first stuck = record {
-  front = first.front ++ stuck.front;
-  rest = stuck.rest;
-  whole = first.whole ∙ ap (λ l. first.front ++ l) stuck.whole ∙ sym (append_assoc first.front stuck.front stuck.rest);
-  place = stuck.place;
-  small = open_map first.front (λ shorter start. behind PS QS first.is shorter start) stuck.small;
-  begins = behind P Q (inside first.front first.is) stuck.front stuck.begins;
-  again = λ last alike.
-      let near : Alike rest (stuck.front ++ last) = subst (λ l. Alike l (stuck.front ++ last)) (sym stuck.whole) (alike_behind stuck.front stuck.rest last alike) in
-      ap (λ l. p l >>= q) (append_assoc first.front stuck.front last) ∙ then_ok q (first.again (stuck.front ++ last) near) ∙ stuck.again last alike;
-}
-  where
-    behind : (P : A → List Token → Type 0) (Q : A → B → List Token → Type 0) → P head first.front → (front : List Token) → Start (Q head) front → Start (Then P Q) (first.front ++ front)
-    behind P Q is front start = record {
-      more = start.more;
-      item = start.item;
-      is = subst (λ l. Then P Q start.item l) (sym (append_assoc first.front front start.more)) (then_parts P Q head start.item first.front (front ++ start.more) is start.is);
-    }
+stuck_second {matter} {A} {B} {P} {PS} {Q} {QS} p q tokens head rest fault inside first stuck = stuck_behind first.front first.whole (start_behind P Q head first.front (inside first.front first.is))
+    (λ front more whole begins opened. open_map first.front (start_behind PS QS head first.front first.is) opened) (λ last alike other e. then_ok q (first.again last alike) ∙ e) stuck
+
+-- an answer that is the same
+pub read_same : {A : Type 0} {a : A} {rest : List Token} {x y : Read A} → x ≡ y → (y ≡ Ok (a, rest)) ⊎ Passes y → (x ≡ Ok (a, rest)) ⊎ Passes x
+read_same same (inl is) = inl (same ∙ is)
+read_same same (inr many) = inr (record { left = many.left; is = same ∙ many.is })
 
 pub after : {matter : Matter} {A B : Type 0} {before clash : List Token → Bool} {P PS : A → List Token → Type 0} {Q QS : A → B → List Token → Type 0} {PBad Bad : List Token → ReadFault → Type 0} {QBad : A → List Token → ReadFault → Type 0}
     {p : List Token → Read A} {q : A → List Token → Read B}
@@ -304,14 +353,9 @@ after {matter} {A} {B} {before} {clash} {P} {PS} {Q} {QS} {PBad} {Bad} {QBad} {p
         subst (λ l. (p l >>= q ≡ Ok (b, rest)) ⊎ Passes (p l >>= q)) (sym (parts_whole P Q b front rest is))
         (by_first (first.all is.head is.parts.front (is.parts.back ++ rest) is.parts.first (near is.head b is.parts.back rest is.parts.then ends)))
       where
-        by_second : p (is.parts.front ++ (is.parts.back ++ rest)) >>= q ≡ q is.head (is.parts.back ++ rest) → (q is.head (is.parts.back ++ rest) ≡ Ok (b, rest)) ⊎ Passes (q is.head (is.parts.back ++ rest))
-            → (p (is.parts.front ++ (is.parts.back ++ rest)) >>= q ≡ Ok (b, rest)) ⊎ Passes (p (is.parts.front ++ (is.parts.back ++ rest)) >>= q)
-        by_second same (inl e) = inl (same ∙ e)
-        by_second same (inr many) = inr (record { left = many.left; is = same ∙ many.is })
-
         by_first : (p (is.parts.front ++ (is.parts.back ++ rest)) ≡ Ok (is.head, is.parts.back ++ rest)) ⊎ Passes (p (is.parts.front ++ (is.parts.back ++ rest)))
             → (p (is.parts.front ++ (is.parts.back ++ rest)) >>= q ≡ Ok (b, rest)) ⊎ Passes (p (is.parts.front ++ (is.parts.back ++ rest)) >>= q)
-        by_first (inl e) = by_second (then_ok q e) ((second is.head).all b is.parts.back rest is.parts.then ends)
+        by_first (inl e) = read_same (then_ok q e) ((second is.head).all b is.parts.back rest is.parts.then ends)
         by_first (inr many) = inr (record { left = many.left; is = then_err q many.is })
 
     fails : (tokens : List Token) (fault : ReadFault) → p tokens >>= q ≡ Err fault → Stuck matter (Then P Q) (Then PS QS) (λ l. p l >>= q) tokens fault ⊎ Bad tokens fault
@@ -348,15 +392,8 @@ start_map f into front start = record { more = start.more; item = f start.item; 
 
 pub stuck_same : {matter : Matter} {A : Type 0} {P PS Q QS : A → List Token → Type 0} {r s : List Token → Read A} (tokens : List Token) (fault : ReadFault)
     → ((a : A) (l : List Token) → P a l → Q a l) → ((a : A) (l : List Token) → PS a l → QS a l) → ((l : List Token) → Alike tokens l → s l ≡ r l) → Stuck matter P PS r tokens fault → Stuck matter Q QS s tokens fault
-stuck_same {matter} {A} {P} {PS} {Q} {QS} {r} {s} tokens fault into small same stuck = record {
-  front = stuck.front;
-  rest = stuck.rest;
-  whole = stuck.whole;
-  place = stuck.place;
-  small = open_map [] (λ shorter start. start_map (λ a. a) small shorter start) stuck.small;
-  begins = start_map (λ a. a) into stuck.front stuck.begins;
-  again = λ last alike. same (stuck.front ++ last) (subst (λ l. Alike l (stuck.front ++ last)) (sym stuck.whole) (alike_behind stuck.front stuck.rest last alike)) ∙ stuck.again last alike;
-}
+stuck_same {matter} {A} {P} {PS} {Q} {QS} {r} {s} tokens fault into small same stuck = stuck_behind [] refl (start_map (λ a. a) into)
+    (λ front more whole begins opened. open_map [] (start_map (λ a. a) small) opened) (λ last alike other e. same last alike ∙ e) stuck
 
 pub either : {matter : Matter} {A : Type 0} {clash : List Token → Bool} {P PS Q QS : A → List Token → Type 0} {PBad QBad Bad : List Token → ReadFault → Type 0} {p q : List Token → Read A} (test : List Token → Bool)
     → ((a b : List Token) → Alike a b → test a ≡ test b)
@@ -393,14 +430,10 @@ either {matter} {A} {clash} {P} {PS} {Q} {QS} {PBad} {QBad} {Bad} {p} {q} test s
     reads a front rest (Left is) ends = yes_read (front ++ rest) (first a front rest (left.inside a front is)) ∙ left.reads a front rest is ends
     reads a front rest (Right is) ends = no_read (front ++ rest) (other a front rest (right.inside a front is) ends) ∙ right.reads a front rest is ends
 
-    moved : (a : A) (rest : List Token) (x y : Read A) → x ≡ y → (y ≡ Ok (a, rest)) ⊎ Passes y → (x ≡ Ok (a, rest)) ⊎ Passes x
-    moved a rest x y e (inl is) = inl (e ∙ is)
-    moved a rest x y e (inr many) = inr (record { left = many.left; is = e ∙ many.is })
-
     all : (a : A) (front rest : List Token) → Either P Q a front → clash rest ≡ false
         → (cond (test (front ++ rest)) (p (front ++ rest)) (q (front ++ rest)) ≡ Ok (a, rest)) ⊎ Passes (cond (test (front ++ rest)) (p (front ++ rest)) (q (front ++ rest)))
-    all a front rest (Left is) ends = moved a rest (cond (test (front ++ rest)) (p (front ++ rest)) (q (front ++ rest))) (p (front ++ rest)) (yes_read (front ++ rest) (first a front rest is)) (left.all a front rest is ends)
-    all a front rest (Right is) ends = moved a rest (cond (test (front ++ rest)) (p (front ++ rest)) (q (front ++ rest))) (q (front ++ rest)) (no_read (front ++ rest) (other a front rest is ends)) (right.all a front rest is ends)
+    all a front rest (Left is) ends = read_same (yes_read (front ++ rest) (first a front rest is)) (left.all a front rest is ends)
+    all a front rest (Right is) ends = read_same (no_read (front ++ rest) (other a front rest is ends)) (right.all a front rest is ends)
 
     left_fails : (tokens : List Token) (fault : ReadFault) → test tokens ≡ true → Stuck matter P PS p tokens fault ⊎ PBad tokens fault → Stuck matter (Either P Q) (Either PS QS) (λ l. if test l then p l else q l) tokens fault ⊎ Bad tokens fault
     left_fails tokens fault t (inl stuck) = inl (stuck_same tokens fault (λ a l is. Left is) (λ a l is. Left is) (λ l alike. yes_read l (sym (same tokens l alike) ∙ t)) stuck)
@@ -462,65 +495,19 @@ follow {matter} first second = after first second (λ a b tokens rest is ends. r
 pub over_first : {matter : Matter} {A B : Type 0} {P PS : A → List Token → Type 0} {Q QS : A → B → List Token → Type 0} (p : List Token → Read A) (q : A → List Token → Read B)
     → ((a : A) → Start (Q a) []) → ((a : A) → Start (QS a) []) → (tokens : List Token) (fault : ReadFault)
     → Over matter P PS p tokens fault → Over matter (Then P Q) (Then PS QS) (λ l. p l >>= q) tokens fault
-over_first {matter} {A} {B} {P} {PS} {Q} {QS} p q some small tokens fault over = record {
-  front = over.front;
-  element = over.element;
-  rest = over.rest;
-  whole = over.whole;
-  place = over.place;
-  is = over.is;
-  small = open_map [] (λ shorter start. goes_on PS QS small shorter start) over.small;
-  begins = goes_on P Q some (over.front ++ over.element) over.begins;
-  again = λ last. then_err q (over.again last);
-}
-  where
-    goes_on : (P : A → List Token → Type 0) (Q : A → B → List Token → Type 0) → ((a : A) → Start (Q a) []) → (front : List Token) → Start P front → Start (Then P Q) front
-    goes_on P Q some front start = let next = some start.item in record {
-      more = start.more ++ next.more;
-      item = next.item;
-      is = subst (λ l. Then P Q next.item l) (append_assoc front start.more next.more) (then_parts P Q start.item next.item (front ++ start.more) next.more start.is next.is);
-    }
+over_first {matter} {A} {B} {P} {PS} {Q} {QS} p q some small tokens fault over = over_behind [] refl (start_first P Q some)
+    (λ front more whole begins opened. open_map [] (start_first PS QS small) opened) (λ last alike other e. then_err q e) over
 
 pub over_second : {matter : Matter} {A B : Type 0} {P PS : A → List Token → Type 0} {Q QS : A → B → List Token → Type 0} (p : List Token → Read A) (q : A → List Token → Read B)
     (tokens : List Token) (head : A) (rest : List Token) (fault : ReadFault)
     → ((l : List Token) → PS head l → P head l) → Took PS p tokens head rest → Over matter (Q head) (QS head) (q head) rest fault → Over matter (Then P Q) (Then PS QS) (λ l. p l >>= q) tokens fault
-over_second {matter} {A} {B} {P} {PS} {Q} {QS} p q tokens head rest fault inside first over = record {
-  front = first.front ++ over.front;
-  element = over.element;
-  rest = over.rest;
-  whole = first.whole ∙ ap (λ l. first.front ++ l) over.whole ∙ regroup over.rest;
-  place = over.place;
-  is = over.is;
-  small = open_map first.front (λ shorter start. behind PS QS first.is shorter start) over.small;
-  begins = subst (λ l. Start (Then P Q) l) (sym (append_assoc first.front over.front over.element)) (behind P Q (inside first.front first.is) (over.front ++ over.element) over.begins);
-  again = λ last.
-      let near : Alike rest (over.front ++ over.element ++ last) = subst (λ l. Alike l (over.front ++ over.element ++ last)) (sym over.whole) (alike_element matter over.front over.is over.rest last) in
-      ap (λ l. p l >>= q) (sym (regroup last)) ∙ then_ok q (first.again (over.front ++ over.element ++ last) near) ∙ over.again last;
-}
-  where
-    regroup : (l : List Token) → first.front ++ (over.front ++ over.element ++ l) ≡ first.front ++ over.front ++ over.element ++ l
-    regroup l = sym (append_assoc first.front (over.front ++ over.element) l) ∙ ap (λ x. x ++ l) (sym (append_assoc first.front over.front over.element))
-
-    behind : (P : A → List Token → Type 0) (Q : A → B → List Token → Type 0) → P head first.front → (front : List Token) → Start (Q head) front → Start (Then P Q) (first.front ++ front)
-    behind P Q is front start = record {
-      more = start.more;
-      item = start.item;
-      is = subst (λ l. Then P Q start.item l) (sym (append_assoc first.front front start.more)) (then_parts P Q head start.item first.front (front ++ start.more) is start.is);
-    }
+over_second {matter} {A} {B} {P} {PS} {Q} {QS} p q tokens head rest fault inside first over = over_behind first.front first.whole (start_behind P Q head first.front (inside first.front first.is))
+    (λ front more whole begins opened. open_map first.front (start_behind PS QS head first.front first.is) opened) (λ last alike other e. then_ok q (first.again last alike) ∙ e) over
 
 pub over_same : {matter : Matter} {A : Type 0} {P PS Q QS : A → List Token → Type 0} {r s : List Token → Read A} (tokens : List Token) (fault : ReadFault)
     → ((a : A) (l : List Token) → P a l → Q a l) → ((a : A) (l : List Token) → PS a l → QS a l) → ((l : List Token) → Alike tokens l → s l ≡ r l) → Over matter P PS r tokens fault → Over matter Q QS s tokens fault
-over_same {matter} {A} {P} {PS} {Q} {QS} {r} {s} tokens fault into small same over = record {
-  front = over.front;
-  element = over.element;
-  rest = over.rest;
-  whole = over.whole;
-  place = over.place;
-  is = over.is;
-  small = open_map [] (λ shorter start. start_map (λ a. a) small shorter start) over.small;
-  begins = start_map (λ a. a) into (over.front ++ over.element) over.begins;
-  again = λ last. same (over.front ++ over.element ++ last) (subst (λ l. Alike l (over.front ++ over.element ++ last)) (sym over.whole) (alike_element matter over.front over.is over.rest last)) ∙ over.again last;
-}
+over_same {matter} {A} {P} {PS} {Q} {QS} {r} {s} tokens fault into small same over = over_behind [] refl (start_map (λ a. a) into)
+    (λ front more whole begins opened. open_map [] (start_map (λ a. a) small) opened) (λ last alike other e. same last alike ∙ e) over
 
 -- A reading whose only other faults are elements that pass a limit
 abbrev pub Limited : Matter → {A : Type 0} → (List Token → Bool) → (A → List Token → Type 0) → (A → List Token → Type 0) → (List Token → Read A) → Type 0

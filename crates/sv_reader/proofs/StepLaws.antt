@@ -1,11 +1,11 @@
 -- Steps: an element is read and added, unless it passes a limit.
-use Rattle.std.proofs.Common.{◌≡◌, ◌∙◌, ◌⊎◌, inl, inr, Bool, true, false, if◌then◌else◌, List, [], ◌∷◌, ◌++◌, length, Ok, Err, refl, sym, ap, subst, append_assoc, append-nil, cond}
+use Rattle.std.proofs.Common.{◌≡◌, ◌∙◌, ◌⊎◌, inl, inr, Bool, true, false, if◌then◌else◌, List, [], ◌∷◌, ◌++◌, length, Ok, Err, refl, sym, ap, subst, append-nil, cond}
 use Rattle.sv_value.specs.declared.spots.Spot.{Spot}
 use Rattle.sv_lex.specs.declared.marks.Mark.TheVariants.{RightParen, Comma}
 use Rattle.sv_lex.specs.declared.tokens.Token.{Token}
 use Rattle.sv_lex.specs.declared.tokens.TokenKind.{TokenKind}
 use Rattle.sv_lex.specs.declared.tokens.TokenKind.TheVariants.{Mark}
-use Rattle.sv_app.specs.declared.refusals.Code.TheVariants.{Syntax, Many}
+use Rattle.sv_app.specs.declared.refusals.Code.TheVariants.{Many}
 use Rattle.sv_reader.specs.declared.faults.ReadFault.{ReadFault}
 use Rattle.sv_reader.specs.Grammar.{◌·◌, kind, mark, others}
 use Rattle.sv_reader.specs.Reading.{Read, ◌>>=◌, refuse, found_at, given, is_kind, is_next, kind_at, comma_turn, closed_at, list_at}
@@ -13,8 +13,8 @@ use Rattle.sv_reader.proofs.MatterLaws.{Matter, OneComma}
 use Rattle.sv_reader.proofs.MadeLaws.{Made, placed, kind_law, take_last_limited, skip_last}
 use Rattle.sv_reader.proofs.AnswerLaws.{next_alike, Alike, alike_behind, anything, bound, then_ok}
 use Rattle.sv_reader.proofs.PartLaws.{kind_next, only_first}
-use Rattle.sv_reader.proofs.ReadLaws.{alike_element, Start, Open, Took, Stuck, Over, Passes, Limited, Then, start_map, open_map, took_same, same_limited, same_reading_limited, after_limited, took_then}
-use Rattle.sv_reader.proofs.TurnLaws.{Words, TurnStuck, TurnOver, Turning, turns_law, near_words}
+use Rattle.sv_reader.proofs.ReadLaws.{Start, Open, Took, StuckAt, OverAt, Misread, Passes, Limited, Then, start_map, open_map, took_same, same_limited, same_reading_limited, after_limited, took_then, read_same, misread_behind}
+use Rattle.sv_reader.proofs.TurnLaws.{Words, Promising, TurnStuck, TurnOver, Turning, turns_law, near_words}
 
 -- what is asked of an element, and of the test that tells whether one more passes a limit
 pub record Stepping (matter : Matter) {S A : Type 0} (before : List Token → Bool) (over : S → List Token → Bool) (p : S → List Token → Read A) (P PS : S → A → List Token → Type 0) (Room : S → A → Type 0) : Type 0 where
@@ -81,14 +81,9 @@ module _ {matter : Matter} {S A : Type 0} {before : List Token → Bool} {over :
   pub step_all : (s m : S) (front rest : List Token) → Step s m front → before rest ≡ false → (one_step s (front ++ rest) ≡ Ok (m, rest)) ⊎ Passes (one_step s (front ++ rest))
   step_all s m front rest is clear = by_test (over s (front ++ rest)) refl
     where
-      free : over s (front ++ rest) ≡ false → ((p s (front ++ rest) >>= λ x r. Ok (add s x, r)) ≡ Ok (m, rest)) ⊎ Passes (p s (front ++ rest) >>= λ x r. Ok (add s x, r))
-          → (one_step s (front ++ rest) ≡ Ok (m, rest)) ⊎ Passes (one_step s (front ++ rest))
-      free o (inl e) = inl (free_read s (front ++ rest) o ∙ e)
-      free o (inr many) = inr (record { left = many.left; is = free_read s (front ++ rest) o ∙ many.is })
-
       by_test : (b : Bool) → over s (front ++ rest) ≡ b → (one_step s (front ++ rest) ≡ Ok (m, rest)) ⊎ Passes (one_step s (front ++ rest))
       by_test true o = inr (record { left = length (front ++ rest); is = over_read s (front ++ rest) o })
-      by_test false o = free o ((added s).all m front rest is clear)
+      by_test false o = read_same (free_read s (front ++ rest) o) ((added s).all m front rest is clear)
 
   -- a part that something small begins with leaves room for it, where the test lets its first token through
   open_step : (s : S) (tokens front rest : List Token) → over s tokens ≡ false → tokens ≡ front ++ rest → Start (Step s) front → Open matter (Made (add s) (PS s)) front → Open matter (SmallStep s) front ⊎ (front ≡ [])
@@ -139,26 +134,15 @@ module _ {matter : Matter} {S A : Type 0} {before : List Token → Bool} {over :
         is = is;
       }
 
-  -- the front may be empty where nothing small begins
-  pub record StepStuck (s : S) (tokens : List Token) (fault : ReadFault) : Type 0 where
-    pub front : List Token
-    pub rest : List Token
-    pub whole : tokens ≡ front ++ rest
-    pub place : fault ≡ record { code = Syntax; left = length rest }
-    pub small : Open matter (SmallStep s) front ⊎ (front ≡ [])
-    pub begins : Start (Step s) front
-    pub again : (last : List Token) → Alike rest last → one_step s (front ++ last) ≡ refuse Syntax last
+  -- a front that is small, or empty where nothing small begins
+  abbrev pub Beginning : S → List Token → Type 0
+  Beginning s front = Open matter (SmallStep s) front ⊎ (front ≡ [])
 
-  pub record StepOver (s : S) (tokens : List Token) (fault : ReadFault) : Type 0 where
-    pub front : List Token
-    pub element : List Token
-    pub rest : List Token
-    pub whole : tokens ≡ front ++ element ++ rest
-    pub place : fault ≡ record { code = Many; left = length (element ++ rest) }
-    pub is : matter.IsElement element
-    pub small : Open matter (SmallStep s) front ⊎ (front ≡ [])
-    pub begins : Start (Step s) (front ++ element)
-    pub again : (last : List Token) → one_step s (front ++ element ++ last) ≡ refuse Many (element ++ last)
+  abbrev pub StepStuck : S → List Token → ReadFault → Type 0
+  StepStuck s tokens fault = StuckAt (Step s) (Beginning s) (one_step s) tokens fault
+
+  abbrev pub StepOver : S → List Token → ReadFault → Type 0
+  StepOver s tokens fault = OverAt matter (Step s) (Beginning s) (one_step s) tokens fault
 
   pub step_fails : (s : S) (tokens : List Token) (fault : ReadFault) → one_step s tokens ≡ Err fault → StepStuck s tokens fault ⊎ StepOver s tokens fault
   step_fails s tokens fault e = by_test (over s tokens) refl e
@@ -177,35 +161,9 @@ module _ {matter : Matter} {S A : Type 0} {before : List Token → Bool} {over :
         again = λ last. over_read s (token ∷ last) (stepping.alike s (token ∷ last) (token ∷ others) refl ∙ o);
       }
 
-      by_fault : over s tokens ≡ false → Stuck matter (Made (add s) (P s)) (Made (add s) (PS s)) (λ tokens. p s tokens >>= λ x r. Ok (add s x, r)) tokens fault ⊎ Over matter (Made (add s) (P s)) (Made (add s) (PS s)) (λ tokens. p s tokens >>= λ x r. Ok (add s x, r)) tokens fault
-          → StepStuck s tokens fault ⊎ StepOver s tokens fault
-      by_fault o (inl stuck) = inl (record {
-        front = stuck.front;
-        rest = stuck.rest;
-        whole = stuck.whole;
-        place = stuck.place;
-        small = open_step s tokens stuck.front stuck.rest o stuck.whole stuck.begins stuck.small;
-        begins = stuck.begins;
-        again = λ last alike.
-            let all : Alike tokens (stuck.front ++ last) = subst (λ l. Alike l (stuck.front ++ last)) (sym stuck.whole) (alike_behind stuck.front stuck.rest last alike) in
-            free_read s (stuck.front ++ last) (sym (stepping.alike s tokens (stuck.front ++ last) all) ∙ o) ∙ stuck.again last alike;
-      })
-      by_fault o (inr ov) = inr (record {
-        front = ov.front;
-        element = ov.element;
-        rest = ov.rest;
-        whole = ov.whole;
-        place = ov.place;
-        is = ov.is;
-        small = open_step s tokens ov.front (ov.element ++ ov.rest) o (ov.whole ∙ append_assoc ov.front ov.element ov.rest) (shorter ov.front ov.element ov.begins) ov.small;
-        begins = ov.begins;
-        again = λ last.
-            let all : Alike tokens (ov.front ++ ov.element ++ last) = subst (λ l. Alike l (ov.front ++ ov.element ++ last)) (sym ov.whole) (alike_element matter ov.front ov.is ov.rest last) in
-            free_read s (ov.front ++ ov.element ++ last) (sym (stepping.alike s tokens (ov.front ++ ov.element ++ last) all) ∙ o) ∙ ov.again last;
-      })
-        where
-          shorter : (front element : List Token) → Start (Step s) (front ++ element) → Start (Step s) front
-          shorter front element start = record { more = element ++ start.more; item = start.item; is = subst (λ l. Step s start.item l) (append_assoc front element start.more) start.is }
+      by_fault : over s tokens ≡ false → Misread matter (Made (add s) (P s)) (Open matter (Made (add s) (PS s))) (λ tokens. p s tokens >>= λ x r. Ok (add s x, r)) tokens fault → StepStuck s tokens fault ⊎ StepOver s tokens fault
+      by_fault o misread = misread_behind [] refl (λ l start. start) (λ front more whole begins opened. open_step s tokens front more o whole begins opened)
+          (λ last alike other e. free_read s last (sym (stepping.alike s tokens last alike) ∙ o) ∙ e) misread
 
       by_test : (b : Bool) → over s tokens ≡ b → cond b (refuse Many tokens) (p s tokens >>= λ x r. Ok (add s x, r)) ≡ Err fault → StepStuck s tokens fault ⊎ StepOver s tokens fault
       by_test true o e = inr (by_over tokens refl o (let same : record { code = Many; left = length tokens } ≡ fault = cc in sym same))
@@ -213,10 +171,10 @@ module _ {matter : Matter} {S A : Type 0} {before : List Token → Bool} {over :
 
   -- the first step, from a state where there is room for everything
   pub first_law : (s : S) → ((l : List Token) → over s l ≡ false) → ((x : A) → Room s x) → Limited matter before (Step s) (SmallStep s) (one_step s)
-  first_law s free room = same_limited (read_same (added s)) (λ m l is. is) (λ m l is. is) into small_added'
+  first_law s free room = same_limited (free_law (added s)) (λ m l is. is) (λ m l is. is) into small_added'
     where
-      read_same : Limited matter before (Made (add s) (P s)) (Made (add s) (PS s)) (λ tokens. p s tokens >>= λ x r. Ok (add s x, r)) → Limited matter before (Made (add s) (P s)) (Made (add s) (PS s)) (one_step s)
-      read_same law = same_reading_limited (λ l. free_read s l (free l)) law
+      free_law : Limited matter before (Made (add s) (P s)) (Made (add s) (PS s)) (λ tokens. p s tokens >>= λ x r. Ok (add s x, r)) → Limited matter before (Made (add s) (P s)) (Made (add s) (PS s)) (one_step s)
+      free_law law = same_reading_limited (λ l. free_read s l (free l)) law
 
       into : (m : S) (l : List Token) → Made (add s) (PS s) m l → SmallStep s m l
       into m l is = record { «from» = is.«from»; is = (is.is, room is.«from»); made = is.made }
@@ -265,21 +223,17 @@ module _ {matter : Matter} {S A : Type 0} {before : List Token → Bool} {over :
       ∙ ap (λ (b : Bool). found_at (given b is.first.token.spot) is.first.token (is.back ++ rest) >>= λ _ r. step_at s r) (ap (λ k. is_kind (Mark Comma) k) is.first.holds)
 
   turn_all : (s m : S) (front rest : List Token) → CommaStep s m front → before rest ≡ false → (comma_turn step_at s (front ++ rest) ≡ Ok (m, rest)) ⊎ Passes (comma_turn step_at s (front ++ rest))
-  turn_all s m front rest is clear = by_step (step_all stepping add s m is.back rest is.then clear)
-    where
-      by_step : (step_at s (is.back ++ rest) ≡ Ok (m, rest)) ⊎ Passes (step_at s (is.back ++ rest)) → (comma_turn step_at s (front ++ rest) ≡ Ok (m, rest)) ⊎ Passes (comma_turn step_at s (front ++ rest))
-      by_step (inl e) = inl (turn_split (Step stepping add) s m front rest is ∙ e)
-      by_step (inr many) = inr (record { left = many.left; is = turn_split (Step stepping add) s m front rest is ∙ many.is })
+  turn_all s m front rest is clear = read_same (turn_split (Step stepping add) s m front rest is) (step_all stepping add s m is.back rest is.then clear)
 
-  start_behind : (X : S → S → List Token → Type 0) (s : S) (token : Token) → token.kind ≡ Mark Comma → (front : List Token) → Start (X s) front → Start (λ m. mark Comma · X s m) (token ∷ front)
-  start_behind X s token k front start = record {
+  comma_start : (X : S → S → List Token → Type 0) (s : S) (token : Token) → token.kind ≡ Mark Comma → (front : List Token) → Start (X s) front → Start (λ m. mark Comma · X s m) (token ∷ front)
+  comma_start X s token k front start = record {
     more = start.more;
     item = start.item;
     is = record { front = token ∷ []; back = front ++ start.more; whole = refl; first = record { token = token; only = refl; holds = k }; then = start.is };
   }
 
-  turn_small : (s : S) (token : Token) → token.kind ≡ Mark Comma → (front : List Token) → Open matter (SmallStep stepping add s) front ⊎ (front ≡ []) → Open matter (SmallCommaStep s) (token ∷ front) ⊎ matter.IsPart [] (token ∷ front)
-  turn_small s token k front (inl opened) = inl (open_map (token ∷ []) (λ l start. start_behind (SmallStep stepping add) s token k l start) opened)
+  turn_small : (s : S) (token : Token) → token.kind ≡ Mark Comma → (front : List Token) → Beginning stepping add s front → Promising matter (SmallCommaStep s) (token ∷ front)
+  turn_small s token k front (inl opened) = inl (open_map (token ∷ []) (λ l start. comma_start (SmallStep stepping add) s token k l start) opened)
   turn_small s token k front (inr e) = inr (subst (λ l. matter.IsPart [] (token ∷ l)) (sym e) (matter.comma [] token k))
 
   turn_fails : (s : S) (tokens : List Token) (fault : ReadFault) → is_next (Mark Comma) tokens ≡ true → comma_turn step_at s tokens ≡ Err fault
@@ -293,26 +247,9 @@ module _ {matter : Matter} {S A : Type 0} {before : List Token → Bool} {over :
 
       by_took : {spot : Spot} {rest : List Token} → Took (placed (Mark Comma)) (kind_at (Mark Comma)) tokens spot rest → StepStuck stepping add s rest fault ⊎ StepOver stepping add s rest fault
           → TurnStuck matter (CommaStep s) (SmallCommaStep s) (comma_turn step_at s) tokens fault ⊎ TurnOver matter (CommaStep s) (SmallCommaStep s) (comma_turn step_at s) tokens fault
-      by_took {spot} {rest} took (inl stuck) = let token = took.is.token in inl (record {
-        front = token ∷ stuck.front;
-        rest = stuck.rest;
-        whole = took.whole ∙ ap (λ l. l ++ rest) took.is.only ∙ ap (λ l. token ∷ l) stuck.whole;
-        place = stuck.place;
-        small = turn_small s token took.is.holds.0 stuck.front stuck.small;
-        begins = start_behind (Step stepping add) s token took.is.holds.0 stuck.front stuck.begins;
-        again = λ last alike. comma_read token (stuck.front ++ last) took.is.holds.0 ∙ stuck.again last alike;
-      })
-      by_took {spot} {rest} took (inr over) = let token = took.is.token in inr (record {
-        front = token ∷ over.front;
-        element = over.element;
-        rest = over.rest;
-        whole = took.whole ∙ ap (λ l. l ++ rest) took.is.only ∙ ap (λ l. token ∷ l) over.whole;
-        place = over.place;
-        is = over.is;
-        small = turn_small s token took.is.holds.0 over.front over.small;
-        begins = start_behind (Step stepping add) s token took.is.holds.0 (over.front ++ over.element) over.begins;
-        again = λ last. comma_read token (over.front ++ over.element ++ last) took.is.holds.0 ∙ over.again last;
-      })
+      by_took {spot} {rest} took misread = let token = took.is.token in
+          misread_behind (token ∷ []) (took.whole ∙ ap (λ l. l ++ rest) took.is.only) (comma_start (Step stepping add) s token took.is.holds.0)
+          (λ front more whole begins small. turn_small s token took.is.holds.0 front small) (λ last alike other e. comma_read token last took.is.holds.0 ∙ e) misread
 
   first_kind : (test : List Token → Bool) (X : List Token → Type 0) (k : TokenKind) (front rest : List Token) → ((token : Token) (l : List Token) → token.kind ≡ k → test (token ∷ l) ≡ false) → (kind k · X) front → test (front ++ rest) ≡ false
   first_kind test X k front rest clear b = ap (λ l. test (l ++ rest)) (b.whole ∙ ap (λ l. l ++ b.back) b.first.only) ∙ clear b.first.token (b.back ++ rest) b.first.holds

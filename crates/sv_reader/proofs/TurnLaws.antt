@@ -2,41 +2,29 @@
 use Rattle.std.proofs.Common.{◌≡◌, ◌∙◌, ℕ, zero, suc, ◌<◌, ◌⊎◌, inl, inr, Bool, true, false, if◌then◌else◌, List, [], ◌∷◌, ◌++◌, length, Ok, Err, refl, sym, ap, subst, arith, append_assoc, cond}
 use Rattle.std.proofs.lemmas.List.{length-append}
 use Rattle.sv_lex.specs.declared.tokens.Token.{Token}
-use Rattle.sv_app.specs.declared.refusals.Code.TheVariants.{Syntax, Many}
+use Rattle.sv_app.specs.declared.refusals.Code.TheVariants.{Many}
 use Rattle.sv_reader.specs.declared.faults.ReadFault.{ReadFault}
-use Rattle.sv_reader.specs.Reading.{Read, ◌>>=◌, refuse, turns_from, turns_at}
+use Rattle.sv_reader.specs.Reading.{Read, ◌>>=◌, turns_at}
 use Rattle.sv_reader.proofs.MatterLaws.{Matter}
 use Rattle.sv_reader.proofs.FuelLaws as fuel
 use Rattle.sv_reader.proofs.MadeLaws.{Made}
-use Rattle.sv_reader.proofs.AnswerLaws.{near, Alike, alike_behind, bound, Bound, bound_err, then_ok, then_err}
-use Rattle.sv_reader.proofs.ReadLaws.{alike_element, Start, Open, Took, Stuck, Over, Passes, Lawful, Plain, start_map, open_map, took_same, stuck_same}
+use Rattle.sv_reader.proofs.AnswerLaws.{near, Alike, bound, Bound, bound_err}
+use Rattle.sv_reader.proofs.ReadLaws.{Start, Open, Took, StuckAt, OverAt, Misread, Stuck, Over, Passes, Lawful, Plain, start_map, open_map, took_same, stuck_same, read_same, misread_behind}
 
 -- turns, and then the end
 pub data Words {S : Type 0} (T : S → S → List Token → Type 0) (E : List Token → Type 0) : S → S → List Token → Type 0 where
   Last : (s : S) (l : List Token) → E l → Words T E s s l
   More : (s m e : S) (front back : List Token) → T s m front → Words T E m e back → Words T E s e (front ++ back)
 
--- no rule allows what stands behind the front, which may be what only promises a turn
-pub record TurnStuck (matter : Matter) {A : Type 0} (All Small : A → List Token → Type 0) (read : List Token → Read A) (tokens : List Token) (fault : ReadFault) : Type 0 where
-  pub front : List Token
-  pub rest : List Token
-  pub whole : tokens ≡ front ++ rest
-  pub place : fault ≡ record { code = Syntax; left = length rest }
-  pub small : Open matter Small front ⊎ matter.IsPart [] front
-  pub begins : Start All front
-  pub again : (last : List Token) → Alike rest last → read (front ++ last) ≡ refuse Syntax last
+-- a front that is small, or only promises a turn
+abbrev pub Promising : (matter : Matter) → {A : Type 0} → (A → List Token → Type 0) → List Token → Type 0
+Promising matter Small front = Open matter Small front ⊎ matter.IsPart [] front
 
--- the element behind the front passes a limit
-pub record TurnOver (matter : Matter) {A : Type 0} (All Small : A → List Token → Type 0) (read : List Token → Read A) (tokens : List Token) (fault : ReadFault) : Type 0 where
-  pub front : List Token
-  pub element : List Token
-  pub rest : List Token
-  pub whole : tokens ≡ front ++ element ++ rest
-  pub place : fault ≡ record { code = Many; left = length (element ++ rest) }
-  pub is : matter.IsElement element
-  pub small : Open matter Small front ⊎ matter.IsPart [] front
-  pub begins : Start All (front ++ element)
-  pub again : (last : List Token) → read (front ++ element ++ last) ≡ refuse Many (element ++ last)
+abbrev pub TurnStuck : (matter : Matter) → {A : Type 0} → (A → List Token → Type 0) → (A → List Token → Type 0) → (List Token → Read A) → List Token → ReadFault → Type 0
+TurnStuck matter All Small read tokens fault = StuckAt All (Promising matter Small) read tokens fault
+
+abbrev pub TurnOver : (matter : Matter) → {A : Type 0} → (A → List Token → Type 0) → (A → List Token → Type 0) → (List Token → Read A) → List Token → ReadFault → Type 0
+TurnOver matter All Small read tokens fault = OverAt matter All (Promising matter Small) read tokens fault
 
 -- what is asked of turns and their end
 pub record Turning (matter : Matter) {S : Type 0} (before clash test : List Token → Bool) (turn end : S → List Token → Read S) (T TS : S → S → List Token → Type 0) (E : List Token → Type 0) : Type 0 where
@@ -129,24 +117,22 @@ module _ {matter : Matter} {S : Type 0} {before clash test : List Token → Bool
       ∙ turn_read s (front ++ (back ++ rest)) m (back ++ rest) (law.first s m front (back ++ rest) (law.inside s m front is)) (law.reads s m front (back ++ rest) is b)
       ∙ reads_all m e back rest others clear
 
-  moved : (e : S) (rest : List Token) (x y : Read S) → x ≡ y → (y ≡ Ok (e, rest)) ⊎ Passes y → (x ≡ Ok (e, rest)) ⊎ Passes x
-  moved e rest x y same (inl is) = inl (same ∙ is)
-  moved e rest x y same (inr many) = inr (record { left = many.left; is = same ∙ many.is })
-
   all_words : (s e : S) (l rest : List Token) → Words T E s e l → clash rest ≡ false → (turns_at test turn end s (l ++ rest) ≡ Ok (e, rest)) ⊎ Passes (turns_at test turn end s (l ++ rest))
   all_words _ _ _ rest (Last s l is) clear = inl (end_read s (l ++ rest) (law.stop l rest is clear) ∙ (law.ends s).reads s l rest (record { «from» = tt; is = is; made = refl }) clear)
   all_words _ _ _ rest (More s m e front back is others) clear =
-      moved e rest (turns_at test turn end s (front ++ back ++ rest)) (turns_at test turn end s (front ++ (back ++ rest))) (ap (λ l. turns_at test turn end s l) (append_assoc front back rest))
+      read_same (ap (λ l. turns_at test turn end s l) (append_assoc front back rest))
       (by_first (all_words m e back rest others clear) (law.all s m front (back ++ rest) is (near_words m e back rest others clear)))
     where
       by_first : (turns_at test turn end m (back ++ rest) ≡ Ok (e, rest)) ⊎ Passes (turns_at test turn end m (back ++ rest))
           → (turn s (front ++ (back ++ rest)) ≡ Ok (m, back ++ rest)) ⊎ Passes (turn s (front ++ (back ++ rest)))
           → (turns_at test turn end s (front ++ (back ++ rest)) ≡ Ok (e, rest)) ⊎ Passes (turns_at test turn end s (front ++ (back ++ rest)))
-      by_first next (inl read) = moved e rest (turns_at test turn end s (front ++ (back ++ rest))) (turns_at test turn end m (back ++ rest))
-          (turn_read s (front ++ (back ++ rest)) m (back ++ rest) (law.first s m front (back ++ rest) is) read) next
+      by_first next (inl read) = read_same (turn_read s (front ++ (back ++ rest)) m (back ++ rest) (law.first s m front (back ++ rest) is) read) next
       by_first next (inr many) = inr (record { left = many.left; is = turn_err s (front ++ (back ++ rest)) (record { code = Many; left = many.left }) (law.first s m front (back ++ rest) is) many.is })
 
   -- where it fails
+
+  abbrev AllMisread : S → List Token → ReadFault → Type 0
+  AllMisread s tokens fault = Misread matter (Words T E s) (Open matter (Words TS E s)) (turns_at test turn end s) tokens fault
 
   end_some : (X : S → S → List Token → Type 0) (s : S) → Start (Words X E s) []
   end_some X s = start_map (λ e. e) (λ e l m. last_word X s e l m) [] (law.ends s).some
@@ -165,99 +151,39 @@ module _ {matter : Matter} {S : Type 0} {before clash test : List Token → Bool
     is = subst (λ x. Words X E s start.item x) (sym (append_assoc front l start.more)) (More s m start.item front (l ++ start.more) is start.is);
   }
 
-  small_turn : (s : S) (front : List Token) → Open matter (TS s) front ⊎ matter.IsPart [] front → Open matter (Words TS E s) front
+  small_turn : (s : S) (front : List Token) → Promising matter (TS s) front → Open matter (Words TS E s) front
   small_turn s front (inl opened) = open_map [] (λ l start. goes_on TS s l start) opened
   small_turn s front (inr part) = record { shorter = []; part = front; whole = refl; start = end_some TS s; is = part }
 
-  stuck_turn : (s : S) (tokens : List Token) (fault : ReadFault) → test tokens ≡ true → TurnStuck matter (T s) (TS s) (turn s) tokens fault → Stuck matter (Words T E s) (Words TS E s) (turns_at test turn end s) tokens fault
-  stuck_turn s tokens fault t stuck = record {
-    front = stuck.front;
-    rest = stuck.rest;
-    whole = stuck.whole;
-    place = stuck.place;
-    small = small_turn s stuck.front stuck.small;
-    begins = goes_on T s stuck.front stuck.begins;
-    again = λ last alike. turn_err s (stuck.front ++ last) (record { code = Syntax; left = length last }) (sym (law.alike tokens (stuck.front ++ last) (near stuck.front stuck.rest last tokens stuck.whole alike)) ∙ t) (stuck.again last alike);
-  }
+  -- the first turn, or what stands behind it, is misread
 
-  stuck_behind : (s : S) (tokens : List Token) (m : S) (r : List Token) (fault : ReadFault) → test tokens ≡ true → Took (TS s) (turn s) tokens m r → Stuck matter (Words T E m) (Words TS E m) (turns_at test turn end m) r fault
-      → Stuck matter (Words T E s) (Words TS E s) (turns_at test turn end s) tokens fault
-  stuck_behind s tokens m r fault t first stuck = record {
-    front = first.front ++ stuck.front;
-    rest = stuck.rest;
-    whole = first.whole ∙ ap (λ l. first.front ++ l) stuck.whole ∙ sym (append_assoc first.front stuck.front stuck.rest);
-    place = stuck.place;
-    small = open_map first.front (λ l start. behind TS s m first.front first.is l start) stuck.small;
-    begins = behind T s m first.front (law.inside s m first.front first.is) stuck.front stuck.begins;
-    again = λ last alike.
-        let back : Alike r (stuck.front ++ last) = near stuck.front stuck.rest last r stuck.whole alike in
-        let all : Alike tokens (first.front ++ (stuck.front ++ last)) = near first.front r (stuck.front ++ last) tokens first.whole back in
-        ap (λ l. turns_at test turn end s l) (append_assoc first.front stuck.front last)
-        ∙ turn_read s (first.front ++ (stuck.front ++ last)) m (stuck.front ++ last) (sym (law.alike tokens (first.front ++ (stuck.front ++ last)) all) ∙ t) (first.again (stuck.front ++ last) back)
-        ∙ stuck.again last alike;
-  }
+  misread_turn : (s : S) (tokens : List Token) (fault : ReadFault) → test tokens ≡ true → Misread matter (T s) (Promising matter (TS s)) (turn s) tokens fault → AllMisread s tokens fault
+  misread_turn s tokens fault t misread = misread_behind [] refl (goes_on T s) (λ front more whole begins small. small_turn s front small)
+      (λ last alike other e. turn_err s last other (sym (law.alike tokens last alike) ∙ t) e) misread
 
-  over_turn : (s : S) (tokens : List Token) (fault : ReadFault) → test tokens ≡ true → TurnOver matter (T s) (TS s) (turn s) tokens fault → Over matter (Words T E s) (Words TS E s) (turns_at test turn end s) tokens fault
-  over_turn s tokens fault t over = record {
-    front = over.front;
-    element = over.element;
-    rest = over.rest;
-    whole = over.whole;
-    place = over.place;
-    is = over.is;
-    small = small_turn s over.front over.small;
-    begins = goes_on T s (over.front ++ over.element) over.begins;
-    again = λ last.
-        let all : Alike tokens (over.front ++ over.element ++ last) = subst (λ l. Alike l (over.front ++ over.element ++ last)) (sym over.whole) (alike_element matter over.front over.is over.rest last) in
-        turn_err s (over.front ++ over.element ++ last) (record { code = Many; left = length (over.element ++ last) }) (sym (law.alike tokens (over.front ++ over.element ++ last) all) ∙ t) (over.again last);
-  }
+  misread_later : (s : S) (tokens : List Token) (m : S) (r : List Token) (fault : ReadFault) → test tokens ≡ true → Took (TS s) (turn s) tokens m r → AllMisread m r fault → AllMisread s tokens fault
+  misread_later s tokens m r fault t first misread = misread_behind first.front first.whole (behind T s m first.front (law.inside s m first.front first.is))
+      (λ front more whole begins opened. open_map first.front (behind TS s m first.front first.is) opened)
+      (λ last alike other e.
+      turn_read s (first.front ++ last) m last (sym (law.alike tokens (first.front ++ last) (near first.front r last tokens first.whole alike)) ∙ t) (first.again last alike) ∙ e)
+      misread
 
-  over_behind : (s : S) (tokens : List Token) (m : S) (r : List Token) (fault : ReadFault) → test tokens ≡ true → Took (TS s) (turn s) tokens m r → Over matter (Words T E m) (Words TS E m) (turns_at test turn end m) r fault
-      → Over matter (Words T E s) (Words TS E s) (turns_at test turn end s) tokens fault
-  over_behind s tokens m r fault t first over = record {
-    front = first.front ++ over.front;
-    element = over.element;
-    rest = over.rest;
-    whole = first.whole ∙ ap (λ l. first.front ++ l) over.whole ∙ regroup over.rest;
-    place = over.place;
-    is = over.is;
-    small = open_map first.front (λ l start. behind TS s m first.front first.is l start) over.small;
-    begins = subst (λ l. Start (Words T E s) l) (sym (append_assoc first.front over.front over.element)) (behind T s m first.front (law.inside s m first.front first.is) (over.front ++ over.element) over.begins);
-    again = λ last.
-        let back : Alike r (over.front ++ over.element ++ last) = subst (λ l. Alike l (over.front ++ over.element ++ last)) (sym over.whole) (alike_element matter over.front over.is over.rest last) in
-        let all : Alike tokens (first.front ++ (over.front ++ over.element ++ last)) = near first.front r (over.front ++ over.element ++ last) tokens first.whole back in
-        ap (λ l. turns_at test turn end s l) (sym (regroup last))
-        ∙ turn_read s (first.front ++ (over.front ++ over.element ++ last)) m (over.front ++ over.element ++ last) (sym (law.alike tokens (first.front ++ (over.front ++ over.element ++ last)) all) ∙ t) (first.again (over.front ++ over.element ++ last) back)
-        ∙ over.again last;
-  }
-    where
-      regroup : (l : List Token) → first.front ++ (over.front ++ over.element ++ l) ≡ first.front ++ over.front ++ over.element ++ l
-      regroup l = sym (append_assoc first.front (over.front ++ over.element) l) ∙ ap (λ x. x ++ l) (sym (append_assoc first.front over.front over.element))
-
-  fails_all : (n : ℕ) (s : S) (tokens : List Token) (fault : ReadFault) → length tokens < n → turns_at test turn end s tokens ≡ Err fault → Stuck matter (Words T E s) (Words TS E s) (turns_at test turn end s) tokens fault ⊎ Over matter (Words T E s) (Words TS E s) (turns_at test turn end s) tokens fault
+  fails_all : (n : ℕ) (s : S) (tokens : List Token) (fault : ReadFault) → length tokens < n → turns_at test turn end s tokens ≡ Err fault → AllMisread s tokens fault
   fails_all zero s tokens fault lt is = absurd (omega (arith, lt))
   fails_all (suc n) s tokens fault lt is = by_test (λ m r less is. fails_all n m r fault less is) (test tokens) refl (sym (unrolled s tokens) ∙ is)
     where
-      by_fault : test tokens ≡ true → TurnStuck matter (T s) (TS s) (turn s) tokens fault ⊎ TurnOver matter (T s) (TS s) (turn s) tokens fault → Stuck matter (Words T E s) (Words TS E s) (turns_at test turn end s) tokens fault ⊎ Over matter (Words T E s) (Words TS E s) (turns_at test turn end s) tokens fault
-      by_fault t (inl stuck) = inl (stuck_turn s tokens fault t stuck)
-      by_fault t (inr over) = inr (over_turn s tokens fault t over)
+      by_bound : ((m : S) (r : List Token) → length r < n → turns_at test turn end m r ≡ Err fault → AllMisread m r fault)
+          → test tokens ≡ true → (turn s tokens ≡ Err fault) ⊎ Bound (turn s tokens) (λ m r. turns_at test turn end m r) (Err fault) → AllMisread s tokens fault
+      by_bound more t (inl e) = misread_turn s tokens fault t (law.fails s tokens fault t e)
+      by_bound more t (inr b) = misread_later s tokens b.item b.rest fault t (law.took s tokens b.item b.rest t b.is)
+          (more b.item b.rest (let less = shorter s tokens b.item b.rest t b.is in omega (arith, less, lt)) b.left)
 
-      by_later : test tokens ≡ true → (b : Bound (turn s tokens) (λ m r. turns_at test turn end m r) (Err fault)) → Stuck matter (Words T E b.item) (Words TS E b.item) (turns_at test turn end b.item) b.rest fault ⊎ Over matter (Words T E b.item) (Words TS E b.item) (turns_at test turn end b.item) b.rest fault
-          → Stuck matter (Words T E s) (Words TS E s) (turns_at test turn end s) tokens fault ⊎ Over matter (Words T E s) (Words TS E s) (turns_at test turn end s) tokens fault
-      by_later t b (inl stuck) = inl (stuck_behind s tokens b.item b.rest fault t (law.took s tokens b.item b.rest t b.is) stuck)
-      by_later t b (inr over) = inr (over_behind s tokens b.item b.rest fault t (law.took s tokens b.item b.rest t b.is) over)
-
-      by_bound : ((m : S) (r : List Token) → length r < n → turns_at test turn end m r ≡ Err fault → Stuck matter (Words T E m) (Words TS E m) (turns_at test turn end m) r fault ⊎ Over matter (Words T E m) (Words TS E m) (turns_at test turn end m) r fault)
-          → test tokens ≡ true → (turn s tokens ≡ Err fault) ⊎ Bound (turn s tokens) (λ m r. turns_at test turn end m r) (Err fault) → Stuck matter (Words T E s) (Words TS E s) (turns_at test turn end s) tokens fault ⊎ Over matter (Words T E s) (Words TS E s) (turns_at test turn end s) tokens fault
-      by_bound more t (inl e) = by_fault t (law.fails s tokens fault t e)
-      by_bound more t (inr b) = by_later t b (more b.item b.rest (let less = shorter s tokens b.item b.rest t b.is in omega (arith, less, lt)) b.left)
-
-      by_stop : test tokens ≡ false → Stuck matter (Made (λ (_ : Unit {0}). s) (λ _. E)) (Made (λ (_ : Unit {0}). s) (λ _. E)) (end s) tokens fault ⊎ ⊥ → Stuck matter (Words T E s) (Words TS E s) (turns_at test turn end s) tokens fault ⊎ Over matter (Words T E s) (Words TS E s) (turns_at test turn end s) tokens fault
+      by_stop : test tokens ≡ false → Stuck matter (Made (λ (_ : Unit {0}). s) (λ _. E)) (Made (λ (_ : Unit {0}). s) (λ _. E)) (end s) tokens fault ⊎ ⊥ → AllMisread s tokens fault
       by_stop t (inl stuck) = inl (stuck_same tokens fault (λ e l m. last_word T s e l m) (λ e l m. last_word TS s e l m) (λ l alike. end_read s l (sym (law.alike tokens l alike) ∙ t)) stuck)
       by_stop t (inr never) = absurd never
 
-      by_test : ((m : S) (r : List Token) → length r < n → turns_at test turn end m r ≡ Err fault → Stuck matter (Words T E m) (Words TS E m) (turns_at test turn end m) r fault ⊎ Over matter (Words T E m) (Words TS E m) (turns_at test turn end m) r fault)
-          → (b : Bool) → test tokens ≡ b → cond b (turn s tokens >>= λ m r. turns_at test turn end m r) (end s tokens) ≡ Err fault → Stuck matter (Words T E s) (Words TS E s) (turns_at test turn end s) tokens fault ⊎ Over matter (Words T E s) (Words TS E s) (turns_at test turn end s) tokens fault
+      by_test : ((m : S) (r : List Token) → length r < n → turns_at test turn end m r ≡ Err fault → AllMisread m r fault)
+          → (b : Bool) → test tokens ≡ b → cond b (turn s tokens >>= λ m r. turns_at test turn end m r) (end s tokens) ≡ Err fault → AllMisread s tokens fault
       by_test more false t is = by_stop t ((law.ends s).fails tokens fault is)
       by_test more true t is = by_bound more t (bound_err (turn s tokens) (λ m r. turns_at test turn end m r) fault is)
 

@@ -5,8 +5,8 @@ use Rattle.sv_app.specs.declared.refusals.Code.TheVariants.{Syntax, Many}
 use Rattle.sv_reader.specs.declared.faults.ReadFault.{ReadFault}
 use Rattle.sv_reader.specs.Reading.{Read, ◌>>=◌, refuse}
 use Rattle.sv_schema_reader.specs.Refused.{IsElement}
-use Rattle.sv_reader.proofs.AnswerLaws.{near, Alike, alike_behind, then_ok, many_syntax}
-use Rattle.sv_reader.proofs.ReadLaws.{alike_element, Start, Open, Took, Over, Then, then_parts, start_map, open_map}
+use Rattle.sv_reader.proofs.AnswerLaws.{near, Alike, then_ok, many_syntax}
+use Rattle.sv_reader.proofs.ReadLaws.{alike_element, Start, Open, Took, Over, Then, then_parts, start_map, open_map, regroup, start_behind}
 use Rattle.sv_schema_reader.proofs.MatterLaws.{schemas}
 
 -- a reading that is told how many tokens are left where its check begins
@@ -51,13 +51,6 @@ pub data Trouble {A : Type 0} (read : Inner A) (All Small Bounds Bad : A → Lis
   IsLoose : Loose read Bounds tokens fault → Trouble read All Small Bounds Bad start tokens fault
   IsUnfit : Unfit read Bad start tokens fault → Trouble read All Small Bounds Bad start tokens fault
 
-start_behind : {A B : Type 0} (P : A → List Token → Type 0) (Q : A → B → List Token → Type 0) (head : A) (before : List Token) → P head before → (front : List Token) → Start (Q head) front → Start (Then P Q) (before ++ front)
-start_behind P Q head before is front start = record {
-  more = start.more;
-  item = start.item;
-  is = subst (λ l. Then P Q start.item l) (sym (append_assoc before front start.more)) (then_parts P Q head start.item before (front ++ start.more) is start.is);
-}
-
 alike_some : (front rest last : List Token) → (front ≡ [] → ⊥) → Alike (front ++ rest) (front ++ last)
 alike_some [] rest last some = absurd (some refl)
 alike_some (x ∷ front) rest last some = refl
@@ -71,18 +64,15 @@ trouble_behind {A} {B} {P} {Q} {QS} {QB} {QU} p q start tokens head rest fault f
   front = first.front ++ over.front;
   element = over.element;
   rest = over.rest;
-  whole = first.whole ∙ ap (λ l. first.front ++ l) over.whole ∙ regroup over.rest;
+  whole = first.whole ∙ ap (λ l. first.front ++ l) over.whole ∙ regroup first.front over.front over.element over.rest;
   place = over.place;
   is = over.is;
-  small = open_map first.front (λ shorter start. start_behind P QS head first.front first.is shorter start) over.small;
+  small = open_map first.front (start_behind P QS head first.front first.is) over.small;
   begins = subst (λ l. Start (Then P Q) l) (sym (append_assoc first.front over.front over.element)) (start_behind P Q head first.front first.is (over.front ++ over.element) over.begins);
   again = λ s last.
       let back : Alike rest (over.front ++ over.element ++ last) = subst (λ l. Alike l (over.front ++ over.element ++ last)) (sym over.whole) (alike_element schemas over.front over.is over.rest last) in
-      ap (λ l. p l >>= λ a r. q a s r) (sym (regroup last)) ∙ then_ok (λ a r. q a s r) (first.again (over.front ++ over.element ++ last) back) ∙ over.again s last;
+      ap (λ l. p l >>= λ a r. q a s r) (sym (regroup first.front over.front over.element last)) ∙ then_ok (λ a r. q a s r) (first.again (over.front ++ over.element ++ last) back) ∙ over.again s last;
 })
-  where
-    regroup : (l : List Token) → first.front ++ (over.front ++ over.element ++ l) ≡ first.front ++ over.front ++ over.element ++ l
-    regroup l = sym (append_assoc first.front (over.front ++ over.element) l) ∙ ap (λ x. x ++ l) (sym (append_assoc first.front over.front over.element))
 trouble_behind {A} {B} {P} {Q} {QS} {QB} {QU} p q start tokens head rest fault first (IsLoose loose) = IsLoose (record {
   front = first.front ++ loose.front;
   rest = loose.rest;
