@@ -1,5 +1,5 @@
 -- Single tokens, parts one behind another, limits, and turns.
-use Rattle.std.proofs.Common.{◌≡◌, ◌∙◌, ℕ, zero, suc, ◌<◌, ◌⊎◌, inl, inr, Bool, true, false, if◌then◌else◌, List, [], ◌∷◌, ◌++◌, length, Option, Some, None, Ok, Err, refl, sym, ap, subst, arith, cond, codes}
+use Rattle.std.proofs.Common.{◌≡◌, ◌∙◌, ℕ, zero, suc, ◌<◌, ◌⊎◌, inl, inr, Bool, true, false, if◌then◌else◌, List, [], ◌∷◌, ◌++◌, length, Option, Some, Ok, Err, refl, sym, ap, subst, arith, append_assoc, cond, codes}
 use Rattle.std.proofs.lemmas.List.{length-append}
 use Rattle.sv_value.specs.declared.spots.Spot.{Spot}
 use Rattle.sv_lex.specs.declared.tokens.Token.{Token}
@@ -9,11 +9,16 @@ use Rattle.sv_app.specs.declared.apps.Ident.{Ident}
 use Rattle.sv_app.specs.declared.refusals.Code.TheVariants.{Syntax}
 use Rattle.sv_app.specs.Words.{is_reserved}
 use Rattle.sv_reader.specs.declared.faults.ReadFault.{ReadFault}
-use Rattle.sv_reader.specs.Reading.{Read, ◌>>=◌, refuse, given, next, is_next, is_kind, is_some, found_at, token_at, kind_at, name_of, name_at, is_name, turns_at, keep}
-use Rattle.sv_reader.proofs.KindLaws.{kind_is, kind_same, token_of}
-use Rattle.sv_reader.proofs.MadeLaws.{given_some}
-use Rattle.sv_reader.proofs.PartLaws.{name_is, is_named}
+use Rattle.sv_reader.specs.Reading.{Read, ◌>>=◌, refuse, next, is_next, is_kind, is_some, token_at, kind_at, name_of, name_at, is_name, turns_at, keep}
+use Rattle.sv_reader.proofs.KindLaws.{kind_same, token_of}
+use Rattle.sv_reader.proofs.MadeLaws as lists_made
+use Rattle.sv_reader.proofs.MatterLaws.{Matter, bare}
+use Rattle.sv_reader.proofs.ReadLaws as lists
+use Rattle.sv_reader.specs.Grammar as of_lists
+use Rattle.sv_reader.proofs.PartLaws.{is_named}
+use Rattle.sv_reader.proofs.PartLaws as parts
 use Rattle.sv_reader.proofs.FuelLaws.{turn_on, end_read}
+use Rattle.sv_reader.specs.Grammar.{IsName}
 use Rattle.sv_txn_reader.specs.Grammar.{◌·◌, One, nothing, kind, name}
 use Rattle.sv_txn_reader.specs.Grammar as grammar
 use Rattle.sv_reader.proofs.AnswerLaws.{Alike, same_read, bound, bound_err, Bound, anything}
@@ -23,67 +28,48 @@ use Rattle.sv_txn_reader.proofs.PlacedLaws.{Mode, Opens, Took, Stuck, Misplaced,
 abbrev pub Means : (M : Mode) {A : Type 0} → (Token → Option A) → M.Index → A → List Token → List Token → Type 0
 Means M meaning i item = One (λ token. meaning token ≡ Some item)
 
-pub meant : {A : Type 0} (meaning : Token → Option A) (token : Token) (rest : List Token) (item : A) → meaning token ≡ Some item → token_at meaning (token ∷ rest) ≡ Ok (item, rest)
-meant {A} meaning token rest item e = ap (λ (found : Option A). found_at found token rest) e
+-- what a language has of the tokens before the rest
+pub record Front {A : Type 0} (L : A → List Token → Type 0) (item : A) (tokens rest : List Token) : Type 0 where
+  pub front : List Token
+  pub whole : tokens ≡ front ++ rest
+  pub is : L item front
+
+-- a reading that passes no limit has its law, whichever limits count
+pub plain_law : {matter : Matter} (M : Mode) {A : Type 0} {clash : List Token → Bool} {L : A → List Token → Type 0} {read : List Token → Read A} → lists.Plain matter clash L read → Law M clash (λ _ item. Front L item) read
+plain_law {matter} M {A} {clash} {L} {read} law = record {
+  some = opens [] law.some;
+  took = λ tokens item rest e. took (law.took tokens item rest e);
+  all = λ i item tokens rest is ends. inl (ap read is.whole ∙ law.reads item is.front rest is.is ends);
+  fails = λ tokens fault e. fails (law.fails tokens fault e);
+}
+  where
+    opens : (front : List Token) → lists.Start L front → Opens M (λ _ item. Front L item) front
+    opens front start = record { more = start.more; item = start.item; is = λ i m loose. record { front = front ++ start.more; whole = sym (append_assoc front start.more m); is = start.is } }
+
+    took : {tokens rest : List Token} {item : A} → lists.Took L read tokens item rest → Took M (λ _ item. Front L item) read tokens item rest
+    took t = record { front = t.front; whole = t.whole; is = λ i m. record { front = t.front; whole = refl; is = t.is }; again = t.again }
+
+    fails : {tokens : List Token} {fault : ReadFault} → lists.Stuck matter L L read tokens fault ⊎ ⊥ → Stuck M (λ _ item. Front L item) read tokens fault
+    fails (inl stuck) = record {
+      front = stuck.front;
+      rest = stuck.rest;
+      code = Syntax;
+      whole = stuck.whole;
+      place = stuck.place;
+      opens = opens stuck.front stuck.begins;
+      cause = Misplaced stuck.rest;
+      again = stuck.again;
+    }
+    fails (inr never) = absurd never
+
+-- one token
+pub one_law : {matter : Matter} (M : Mode) {A : Type 0} {clash : List Token → Bool} (Holds : A → Token → Type 0) {read : List Token → Read A} → lists.Plain matter clash (λ item. of_lists.One (Holds item)) read → Law M clash (λ _ item. One (Holds item)) read
+one_law M Holds law = map_law (plain_law M law)
+    (λ i item l r f. record { token = f.is.token; next = f.whole ∙ ap (λ x. x ++ r) f.is.only; holds = f.is.holds })
+    (λ i item l r is. record { front = is.token ∷ []; whole = is.next; is = record { token = is.token; only = refl; holds = is.holds } })
 
 pub leaf_law : (M : Mode) {A : Type 0} (clash : List Token → Bool) (meaning : Token → Option A) (sample : Token) (sampled : A) → meaning sample ≡ Some sampled → Law M clash (Means M meaning) (token_at meaning)
-leaf_law M {A} clash meaning sample sampled s = record { some = some; took = took; all = all; fails = fails }
-  where
-    some : Opens M (Means M meaning) []
-    some = record { more = sample ∷ []; item = sampled; is = λ i m loose. record { token = sample; next = refl; holds = s } }
-
-    took : (tokens : List Token) (item : A) (rest : List Token) → token_at meaning tokens ≡ Ok (item, rest) → Took M (Means M meaning) (token_at meaning) tokens item rest
-    took [] item rest e = absurd cc
-    took (token ∷ others) item rest e = by_meaning (meaning token) refl e
-      where
-        by_meaning : (found : Option A) → meaning token ≡ found → found_at found token others ≡ Ok (item, rest) → Took M (Means M meaning) (token_at meaning) (token ∷ others) item rest
-        by_meaning None m e = absurd cc
-        by_meaning (Some a) m e =
-            let same = same_read e in
-            let is : meaning token ≡ Some item = m ∙ ap Some same.item in
-            record {
-              front = token ∷ [];
-              whole = ap (λ l. token ∷ l) same.rests;
-              is = λ i m. record { token = token; next = refl; holds = is };
-              again = λ last alike. meant meaning token last item is;
-            }
-
-    all : (i : M.Index) (item : A) (tokens rest : List Token) → Means M meaning i item tokens rest → clash rest ≡ false → Reads M i (token_at meaning tokens) item rest
-    all i item tokens rest is ends = inl (ap (token_at meaning) is.next ∙ meant meaning is.token rest item is.holds)
-
-    fails : (tokens : List Token) (fault : ReadFault) → token_at meaning tokens ≡ Err fault → Stuck M (Means M meaning) (token_at meaning) tokens fault
-    fails [] fault e = record {
-      front = [];
-      rest = [];
-      code = Syntax;
-      whole = refl;
-      place = let same : record { code = Syntax; left = 0 } ≡ fault = cc in sym same;
-      opens = some;
-      cause = Misplaced [];
-      again = again;
-    }
-      where
-        again : (last : List Token) → Alike [] last → token_at meaning last ≡ refuse Syntax last
-        again [] alike = refl
-        again (other ∷ last) alike = absurd alike
-    fails (token ∷ others) fault e = by_meaning (meaning token) refl e
-      where
-        by_meaning : (found : Option A) → meaning token ≡ found → found_at found token others ≡ Err fault → Stuck M (Means M meaning) (token_at meaning) (token ∷ others) fault
-        by_meaning (Some a) m e = absurd cc
-        by_meaning None m e = record {
-          front = [];
-          rest = token ∷ others;
-          code = Syntax;
-          whole = refl;
-          place = let same : record { code = Syntax; left = length (token ∷ others) } ≡ fault = cc in sym same;
-          opens = some;
-          cause = Misplaced (token ∷ others);
-          again = again;
-        }
-          where
-            again : (last : List Token) → Alike (token ∷ others) last → token_at meaning last ≡ refuse Syntax last
-            again [] alike = absurd alike
-            again (other ∷ last) alike = ap (λ (found : Option A). found_at found other last) (ap meaning (sym alike) ∙ m)
+leaf_law M {A} clash meaning sample sampled s = one_law M (λ (item : A) token. meaning token ≡ Some item) (lists.leaf bare clash meaning sample sampled s)
 
 -- nothing, which is always the same
 pub record Is {I A : Type 0} (same : A) (i : I) (item : A) (tokens rest : List Token) : Type 0 where
@@ -91,32 +77,13 @@ pub record Is {I A : Type 0} (same : A) (i : I) (item : A) (tokens rest : List T
   pub is : item ≡ same
 
 pub ret_law : (M : Mode) {A : Type 0} (clash : List Token → Bool) (same : A) → Law M clash (Is {I = M.Index} same) (λ tokens. Ok (same, tokens))
-ret_law M {A} clash same = record {
-  some = record { more = []; item = same; is = λ i m loose. record { empty = refl; is = refl } };
-  took = λ tokens item rest e. let s = same_read e in record {
-    front = [];
-    whole = s.rests;
-    is = λ i m. record { empty = refl; is = sym s.item };
-    again = λ last alike. ap (λ (a : A). Ok (a, last)) s.item;
-  };
-  all = λ i item tokens rest is ends. inl (ap (λ (l : List Token). Ok (same, l)) is.empty ∙ ap (λ (b : A). Ok (b, rest)) (sym is.is));
-  fails = λ tokens fault e. absurd cc;
-}
+ret_law M {A} clash same = map_law (plain_law M (lists.ret bare clash same))
+    (λ i item l r f. record { empty = f.whole ∙ ap (λ x. x ++ r) f.is.empty; is = f.is.is }) (λ i item l r is. record { front = []; whole = is.empty; is = record { empty = refl; is = is.is } })
 
 -- kinds and names
 
 pub kind_law : (M : Mode) (clash : List Token → Bool) (k : TokenKind) → Law M clash (λ _ spot. grammar.kind_at spot k) (kind_at k)
-kind_law M clash k = map_law (leaf_law M clash (λ token. given (is_kind k token.kind) token.spot) (token_of k) (token_of k).spot (ap (λ b. given b (token_of k).spot) (kind_same k))) into out
-  where
-    into : (i : M.Index) (spot : Spot) (l r : List Token) → Means M (λ token. given (is_kind k token.kind) token.spot) i spot l r → grammar.kind_at spot k l r
-    into i spot l r m = let g = given_some (is_kind k m.token.kind) m.token.spot spot m.holds in record { token = m.token; next = m.next; holds = (kind_is k m.token.kind g.0, g.1) }
-
-    out : (i : M.Index) (spot : Spot) (l r : List Token) → grammar.kind_at spot k l r → Means M (λ token. given (is_kind k token.kind) token.spot) i spot l r
-    out i spot l r p = record {
-      token = p.token;
-      next = p.next;
-      holds = ap (λ wanted. given (is_kind k wanted) p.token.spot) p.holds.0 ∙ ap (λ b. given b p.token.spot) (kind_same k) ∙ ap Some p.holds.1;
-    }
+kind_law M clash k = one_law M (λ spot token. (token.kind ≡ k) × (token.spot ≡ spot)) (lists_made.kind_law bare clash k)
 
 pub a_name : Ident
 a_name = record { name = codes "a"; spot = record { line = 1; col = 1 }; num = 0 }
@@ -129,13 +96,7 @@ unfolding is_reserved a_name
 is_a_name = refl
 
 pub name_law : (M : Mode) (clash : List Token → Bool) → Law M clash (λ _ x. name x) name_at
-name_law M clash = map_law (leaf_law M clash name_of name_token a_name is_a_name) into out
-  where
-    into : (i : M.Index) (x : Ident) (l r : List Token) → Means M name_of i x l r → name x l r
-    into i x l r m = record { token = m.token; next = m.next; holds = name_is m.token.spot m.token.kind x m.holds }
-
-    out : (i : M.Index) (x : Ident) (l r : List Token) → name x l r → Means M name_of i x l r
-    out i x l r n = record { token = n.token; next = n.next; holds = is_named x n.token n.holds }
+name_law M clash = one_law M IsName (parts.name_law bare clash)
 
 -- what begins with a token of a kind, or with a name
 pub kind_next : (k : TokenKind) (tokens rest : List Token) → kind k tokens rest → is_next k tokens ≡ true
