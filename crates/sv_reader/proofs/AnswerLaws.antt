@@ -1,9 +1,9 @@
 -- Answers of readings, and tokens that begin alike.
-use Rattle.std.proofs.Common.{◌≡◌, ℕ, ◌⊎◌, inl, inr, Bool, false, List, [], ◌∷◌, ◌++◌, Ok, Err, refl, sym, ap, subst, codes}
+use Rattle.std.proofs.Common.{◌≡◌, ℕ, ◌⊎◌, inl, inr, Bool, false, List, [], ◌∷◌, ◌++◌, length, Ok, Err, refl, sym, ap, subst}
 use Rattle.sv_lex.specs.declared.tokens.Token.{Token}
 use Rattle.sv_app.specs.declared.refusals.Code.TheVariants.{Syntax, Many}
 use Rattle.sv_reader.specs.declared.faults.ReadFault.{ReadFault}
-use Rattle.sv_reader.specs.Reading.{Read, ◌>>=◌, next}
+use Rattle.sv_reader.specs.Reading.{Read, ◌>>=◌, next, IsLeft}
 
 -- tokens that begin with the same token, or both are none
 abbrev pub Alike : List Token → List Token → Type 0
@@ -68,3 +68,7 @@ next_alike test [] [] alike = refl
 next_alike test [] (y ∷ b) alike = absurd alike
 next_alike test (x ∷ a) [] alike = absurd alike
 next_alike test (x ∷ a) (y ∷ b) alike = ap test alike
+
+pub left_read : {A : Type 0} (read : Read A) (a : A) (left : ℕ) → IsLeft read a left → (rest : List Token) × (read ≡ Ok (a, rest)) × (length rest ≡ left)
+left_read {A} (Ok (b, rest)) a left is = (rest, ap (λ (x : A). Ok (x, rest)) is.0, is.1)
+left_read (Err fault) a left never = absurd never

@@ -14,7 +14,7 @@ use Rattle.sv_schema_reader.specs.Reading.{begins_table, schema_at}
 use Rattle.sv_reader.specs.Places.{spot_of}
 use Rattle.sv_schema_reader.specs.Refused.{Begins, BeginsSmall, PassesNone, IsMisplaced, IsTooMany, IsRefused, BeginsTable, IsRead}
 use Rattle.sv_reader.proofs.MadeLaws.{Made}
-use Rattle.sv_reader.proofs.AnswerLaws.{Alike, alike_same, same_read, many_syntax}
+use Rattle.sv_reader.proofs.AnswerLaws.{Alike, alike_same, same_read, many_syntax, left_read}
 use Rattle.sv_reader.proofs.ReadLaws.{Start, Open, Took, Stuck, Over, Passes}
 use Rattle.sv_schema_reader.proofs.SchemaLaws.{small_schema, schema_law, start_table, table_opens, opens_table}
 use Rattle.sv_schema_reader.proofs.MatterLaws.{schemas}
@@ -87,10 +87,6 @@ not_before front rest ts answer is e again =
 pub record Found (tokens : List Token) (ds : List Declaration) (left : ℕ) : Type 0 where
   pub fits : left ≤ length tokens
   pub is : IsRead (take (length tokens - left) tokens) (drop (length tokens - left) tokens) ds
-
-left_read : (read : Read (List Declaration)) (ds : List Declaration) (left : ℕ) → IsLeft read ds left → (rest : List Token) × (read ≡ Ok (ds, rest)) × (length rest ≡ left)
-left_read (Ok (es, rest)) ds left is = (rest, ap (λ (x : List Declaration). Ok (x, rest)) is.0, is.1)
-left_read (Err fault) ds left never = absurd never
 
 pub found : (tokens : List Token) (ds : List Declaration) (left : ℕ) → IsLeft (schema_at tokens) ds left → Found tokens ds left
 found tokens ds left is =

@@ -1,5 +1,5 @@
 -- Where tokens are refused: at the first token that no rule allows, or at the first that begins an element past a limit.
-use Rattle.std.specs.Prelude.{◌≡◌, ◌≢◌, ◌⊎◌, List, [], ◌∷◌, ◌++◌, codes, ℕ, Result, Ok, Err, Vec}
+use Rattle.std.specs.Prelude.{◌≡◌, ◌≢◌, ◌⊎◌, List, [], ◌∷◌, ◌++◌, codes, ℕ, Result, Vec}
 use Rattle.std.specs.Global.{Global}
 use Rattle.sv_value.specs.declared.spots.Spot.{Spot}
 use Rattle.sv_lex.specs.declared.marks.Mark.TheVariants.{Comma, At}
@@ -10,13 +10,12 @@ use Rattle.sv_app.specs.declared.refusals.Code.TheVariants.{Syntax, Many}
 use Rattle.sv_app.specs.declared.refusals.Refusal.{Refusal}
 use Rattle.sv_app.specs.declared.schemas.Check.{Check}
 use Rattle.sv_app.specs.declared.refusals.Stop.{Stop}
-use Rattle.sv_app.specs.declared.refusals.Stop.TheVariants.{Refused, NoMemory}
 use Rattle.sv_app.specs.declared.schemas.Table.{Table}
 use Rattle.sv_app.specs.Schema.{Bound, Declaration, schema_of}
 use Rattle.sv_schema_reader.specs.Declarations.{all_declared}
 use Rattle.sv_schema_reader.specs.Grammar.{Written, schema, item, Demand}
 use Rattle.sv_schema_reader.specs.Limits.{AreSmall, Fits64}
-use Rattle.sv_reader.specs.Places.{spot_of}
+use Rattle.sv_reader.specs.Places.{spot_of, AnswersTo}
 
 -- a schema may begin with these tokens
 pub record Begins (tokens : List Token) : Type 0 where
@@ -99,6 +98,4 @@ pub record IsRead (tokens rest : List Token) (declarations : List Declaration) :
 
 -- these declarations, and the place behind their tokens; or there was no memory
 abbrev pub IsAnswer : Result (Vec Table Global × ℕ) Stop → List Declaration → ℕ → Type 0
-IsAnswer (Ok read) declarations place = (schema_of read.0.items ≡ declarations) × (read.1 ≡ place)
-IsAnswer (Err (Refused refusal)) declarations place = ⊥
-IsAnswer (Err NoMemory) declarations place = Unit {0}
+IsAnswer = AnswersTo (λ (tables : Vec Table Global). schema_of tables.items)

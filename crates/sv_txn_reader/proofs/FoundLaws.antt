@@ -16,7 +16,7 @@ use Rattle.sv_txn_reader.specs.Grammar.{transactions}
 use Rattle.sv_reader.specs.Reading.{IsLeft}
 use Rattle.sv_txn_reader.specs.Reading.{begins_txn, txns_at}
 use Rattle.sv_txn_reader.specs.Refused.{Begins, BeginsWithin, IsRefused, BeginsTxn, AreRead}
-use Rattle.sv_reader.proofs.AnswerLaws.{Alike, alike_same, Same, same_read}
+use Rattle.sv_reader.proofs.AnswerLaws.{Alike, alike_same, Same, same_read, left_read}
 use Rattle.sv_txn_reader.proofs.PlacedLaws.{Opens, Passes, Stuck, Cause, Misplaced, TooMany, Reads}
 use Rattle.sv_txn_reader.proofs.LimitLaws.{places}
 use Rattle.sv_txn_reader.proofs.TxnLaws.{txns_law, txns_stop}
@@ -45,10 +45,6 @@ pub record FoundAt (tokens : List Token) (at : ℕ) (txns : List Transaction) (l
   pub behind : at ≤ length tokens - left
   pub is : AreRead txns (drop at tokens) (drop (length tokens - left) tokens)
   pub all : (ts : List Transaction) (rest : List Token) → AreRead ts (drop at tokens) rest → (txns ≡ ts) × (length tokens - left ≡ length tokens - length rest)
-
-left_read : (read : Read (List Transaction)) (ts : List Transaction) (left : ℕ) → IsLeft read ts left → (rest : List Token) × (read ≡ Ok (ts, rest)) × (length rest ≡ left)
-left_read (Ok (es, rest)) ts left is = (rest, ap (λ (x : List Transaction). Ok (x, rest)) is.0, is.1)
-left_read (Err fault) ts left never = absurd never
 
 never_late : (read : Read (List Transaction)) (ts : List Transaction) (rest : List Token) → Reads places 0 read ts rest → ((fault : ReadFault) → read ≡ Err fault → ⊥) → read ≡ Ok (ts, rest)
 never_late read ts rest (inl e) sure = e

@@ -5,7 +5,8 @@ use Rattle.sv_lex.specs.declared.tokens.Token.{Token}
 use Rattle.sv_lex.specs.declared.tokens.TokenKind.TheVariants.{Mark}
 use Rattle.sv_app.specs.Trees.{Term, Variable, Sum, Difference, Product}
 use Rattle.sv_reader.specs.Reading.{Read, ◌>>=◌, is_kind, is_next, kind_at}
-use Rattle.sv_txn_reader.specs.Grammar.{mark, spot_of, Rank, Factors, Products, Sums, IsTerm, OneFactor, AProduct, OneProduct, ASum, ADifference}
+use Rattle.sv_app.specs.TermTypes.{spot_of}
+use Rattle.sv_txn_reader.specs.Grammar.{mark, Rank, Factors, Products, Sums, IsTerm, OneFactor, AProduct, OneProduct, ASum, ADifference}
 use Rattle.sv_txn_reader.specs.Reading.{Graded, never, factor_with, factor_at, product_turn, products_with, products_at, is_sign, joined_at, sum_turn, sums_with, sums_at}
 use Rattle.sv_txn_reader.proofs.ChainLaws.{Fits, fits_less, Step, Chain, chain_law, turns_keep, turns_last}
 use Rattle.sv_txn_reader.proofs.FactorLaws.{Deep, tall, a_term, multiplies, adds, Inside, Flat, Nested, factor_law}

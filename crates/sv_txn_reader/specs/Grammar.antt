@@ -12,6 +12,7 @@ use Rattle.sv_app.specs.declared.schemas.Ty.{Ty}
 use Rattle.sv_app.specs.declared.schemas.Ty.TheVariants as types
 use Rattle.sv_app.specs.declared.txns.Rel.{Rel}
 use Rattle.sv_app.specs.declared.txns.Rel.TheVariants as rels
+use Rattle.sv_app.specs.TermTypes.{spot_of}
 use Rattle.sv_app.specs.Trees.{Term, Number, Words, Variable, Field, Old, Minus, Sum, Difference, Product, Test, Compare, Negation, Both, Either, Command, Declare, Assign, Fetch, Choose, ForRows, ForEach, Insert, Update, Remove, Abort, Reply, Block, Finish, Then, Transaction}
 use Rattle.sv_txn_reader.specs.Standing.{Standing, outside, one_statement, deeper, in_loop, behind, past_command}
 use Rattle.sv_reader.specs.Grammar.{IsName}
@@ -67,18 +68,6 @@ others x (a ∷ more) = mark marks.Comma · x a · others x more
 abbrev pub separated : {A : Type 0} → (A → List Token → List Token → Type 0) → List A → List Token → List Token → Type 0
 separated x [] = λ _ _. ⊥
 separated x (a ∷ more) = x a · others x more
-
--- the place of an expression
-abbrev pub spot_of : Term → Spot
-spot_of (Number n s) = s
-spot_of (Words t s) = s
-spot_of (Variable x s) = s
-spot_of (Field r c s) = s
-spot_of (Old c s) = s
-spot_of (Minus a s) = s
-spot_of (Sum a b s) = s
-spot_of (Difference a b s) = s
-spot_of (Product a b s) = s
 
 -- the expression, which begins at this place
 abbrev pub placed : Spot → Term → Term

@@ -19,7 +19,8 @@ use Rattle.sv_reader.specs.Reading.{Read, ◌>>=◌, refuse, given, is_next, is_
 use Rattle.sv_txn_reader.specs.declared.counts.Counts.{Counts}
 use Rattle.sv_txn_reader.specs.declared.heads.Head.{Head}
 use Rattle.sv_txn_reader.specs.declared.heads.Head.TheVariants as heads
-use Rattle.sv_txn_reader.specs.Grammar.{spot_of, placed}
+use Rattle.sv_app.specs.TermTypes.{spot_of}
+use Rattle.sv_txn_reader.specs.Grammar.{placed}
 use Rattle.sv_txn_reader.specs.Standing.{counts, plus}
 
 -- an expression, and how much deeper it is than a name; a condition, and how much deeper it is than a comparison of names

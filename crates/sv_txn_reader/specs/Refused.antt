@@ -1,5 +1,5 @@
 -- Where tokens are refused: at the first one with which no transactions begin that keep the limits.
-use Rattle.std.specs.Prelude.{◌≡◌, ◌⊎◌, ℕ, List, [], ◌∷◌, ◌++◌, length, codes, Result, Ok, Err, Vec}
+use Rattle.std.specs.Prelude.{◌≡◌, ◌⊎◌, ℕ, List, [], ◌∷◌, ◌++◌, length, codes, Result, Vec}
 use Rattle.std.specs.Global.{Global}
 use Rattle.sv_value.specs.declared.spots.Spot.{Spot}
 use Rattle.sv_lex.specs.declared.tokens.Token.{Token}
@@ -7,10 +7,9 @@ use Rattle.sv_lex.specs.declared.tokens.TokenKind.TheVariants.{Name}
 use Rattle.sv_app.specs.declared.refusals.Code.TheVariants.{Syntax, Many}
 use Rattle.sv_app.specs.declared.refusals.Refusal.{Refusal}
 use Rattle.sv_app.specs.declared.refusals.Stop.{Stop}
-use Rattle.sv_app.specs.declared.refusals.Stop.TheVariants.{Refused, NoMemory}
 use Rattle.sv_app.specs.declared.txns.Txn.{Txn}
 use Rattle.sv_app.specs.Trees.{Transaction, transactions_of}
-use Rattle.sv_reader.specs.Places.{spot_of}
+use Rattle.sv_reader.specs.Places.{spot_of, AnswersTo}
 use Rattle.sv_txn_reader.specs.Grammar.{transactions}
 
 -- transactions may begin with these tokens, whatever limits they pass
@@ -61,6 +60,4 @@ pub record AreRead (txns : List Transaction) (tokens rest : List Token) : Type 0
 
 -- these transactions, and the place behind their tokens; or there was no memory
 abbrev pub IsAnswer : Result (Vec Txn Global × ℕ) Stop → List Transaction → ℕ → Type 0
-IsAnswer (Ok read) txns place = (transactions_of read.0.items ≡ txns) × (read.1 ≡ place)
-IsAnswer (Err (Refused refusal)) txns place = ⊥
-IsAnswer (Err NoMemory) txns place = Unit {0}
+IsAnswer = AnswersTo (λ (txns : Vec Txn Global). transactions_of txns.items)

@@ -1,8 +1,9 @@
 ghost use Rattle.std.specs.Prelude.{◌≡◌, ◌≤◌, ◌-◌, ◌<◌, suc, IfOk};
 ghost use Rattle.std.specs.Option.{option_map};
+ghost use Rattle.sv_app.specs.TermTypes.{spot_of};
 ghost use Rattle.sv_app.specs.Trees.{term_of, Minus, Sum, Difference, Product};
 ghost use Rattle.sv_reader.specs.Reading.{Reads, token_at, is_next, turns_at, keep};
-ghost use Rattle.sv_txn_reader.specs.Grammar.{placed, spot_of};
+ghost use Rattle.sv_txn_reader.specs.Grammar.{placed};
 ghost use Rattle.sv_txn_reader.specs.Reading.{literal_of, field_at, old_at, leaf_at, sign_at, group_at, factor_with, factor_at, product_turn, products_with, products_at, is_sign, joined_at, factor_below, products_below, sums_below, sum_turn, sums_with, sums_at, expr_at};
 
 use crate::graded::Graded;
