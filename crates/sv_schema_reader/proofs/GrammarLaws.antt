@@ -1,14 +1,13 @@
 -- Tables that were read keep the grammar, and their invariants are numbered in order of writing.
-use Rattle.std.proofs.Common.{◌≡◌, ◌≢◌, ℕ, zero, suc, ◌+◌, ◌≤◌, List, [], ◌∷◌, ◌++◌, length, Option, Some, None, refl, sym, subst, arith}
+use Rattle.std.proofs.Common.{◌≡◌, ◌≢◌, ℕ, suc, ◌+◌, ◌≤◌, List, [], ◌∷◌, ◌++◌, length, Option, Some, None, refl, sym, subst, arith}
 use Rattle.std.specs.List.{All, AllByRecursion, flat_map}
 use Rattle.std.proofs.lemmas.List.Elements.{All-nil, All-cons}
 use Rattle.sv_lex.specs.declared.tokens.Token.{Token}
 use Rattle.sv_app.specs.declared.apps.Ident.{Ident}
-use Rattle.sv_app.specs.declared.schemas.Column.{Column}
 use Rattle.sv_app.specs.declared.schemas.Ty.{Ty}
 use Rattle.sv_app.specs.declared.schemas.Ty.TheVariants as types
 use Rattle.sv_app.specs.Conditions.{KeepsRule, KeepsTable, KeepsGrammar, AreNumberedFrom, AreNumbered}
-use Rattle.sv_app.specs.Schema.{Rule, Bound, OneOf, Different, Refers, Invariant, Declaration}
+use Rattle.sv_app.specs.Schema.{Bound, OneOf, Different, Refers, Invariant, Declaration}
 use Rattle.sv_schema_reader.specs.Declarations.{columns_of, keys_of, first_key, invariants_of, declared, declared_behind, all_declared}
 use Rattle.sv_reader.specs.Grammar.{text, others, separated}
 use Rattle.sv_schema_reader.specs.Grammar.{Item, Field, Key, Demand, Written, column_type, item, table, tables, schema}

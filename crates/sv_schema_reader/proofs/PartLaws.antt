@@ -2,14 +2,14 @@
 use Rattle.std.proofs.Common.{◌≡◌, ◌∙◌, ℕ, Bool, List, [], ◌∷◌, Some, None, refl, sym, ap, subst, codes}
 use Rattle.sv_lex.specs.declared.marks.Mark.TheVariants.{At}
 use Rattle.sv_lex.specs.declared.tokens.Token.{Token}
-use Rattle.sv_lex.specs.declared.tokens.TokenKind.TheVariants.{Name, Text, Mark}
+use Rattle.sv_lex.specs.declared.tokens.TokenKind.TheVariants.{Name, Mark}
 use Rattle.sv_app.specs.declared.schemas.Kind.{Kind}
 use Rattle.sv_app.specs.declared.schemas.Kind.TheVariants as kinds
 use Rattle.sv_app.specs.declared.schemas.Merge.{Merge}
 use Rattle.sv_app.specs.declared.schemas.Merge.TheVariants as merges
 use Rattle.sv_app.specs.declared.schemas.Ty.{Ty}
 use Rattle.sv_app.specs.declared.schemas.Ty.TheVariants as types
-use Rattle.sv_reader.specs.Grammar.{Both, ◌·◌, nothing, kind, word, name, text}
+use Rattle.sv_reader.specs.Grammar.{Both, ◌·◌, nothing, kind, word}
 use Rattle.sv_schema_reader.specs.Grammar.{table_kind, column_type, merge_kind, column}
 use Rattle.sv_reader.specs.Reading.{is_kind, is_next, token_at, by_word}
 use Rattle.sv_schema_reader.specs.Reading.{kind_named, type_named, merge_named, table_kind_at, column_type_at, merge_kind_at, column_at}

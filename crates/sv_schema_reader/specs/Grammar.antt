@@ -3,7 +3,7 @@ use Rattle.std.specs.Prelude.{◌≡◌, ℤ, neg_ℤ, ◌-ℤ◌, pos, List, []
 use Rattle.sv_value.specs.declared.spots.Spot.{Spot}
 use Rattle.sv_lex.specs.declared.marks.Mark.TheVariants.{LeftParen, RightParen, Comma, Semi, Lt, Le, Gt, Ge, Plus, Minus, At}
 use Rattle.sv_lex.specs.declared.tokens.Token.{Token}
-use Rattle.sv_lex.specs.declared.tokens.TokenKind.TheVariants.{Number, Text, Mark}
+use Rattle.sv_lex.specs.declared.tokens.TokenKind.TheVariants.{Number, Mark}
 use Rattle.sv_app.specs.declared.apps.Ident.{Ident}
 use Rattle.sv_app.specs.declared.schemas.Check.{Check}
 use Rattle.sv_app.specs.declared.schemas.Column.{Column}

@@ -1,4 +1,4 @@
-use Rattle.std.proofs.Common.{◌≡◌, ◌∙◌, ◌-◌, Err, length, drop, sym, ap, subst, arith}
+use Rattle.std.proofs.Common.{◌≡◌, ◌∙◌, Err, drop, sym, ap, subst, arith}
 use Rattle.sv_app.specs.Schema.{schema_of}
 use Rattle.sv_reader.specs.Reading.{IsLeft}
 use Rattle.sv_schema_reader.specs.Reading.{schema_at}
