@@ -16,7 +16,7 @@ use Rattle.sv_app.specs.Conditions.{KeepsTable, IsSmallTable}
 use Rattle.sv_app.specs.Lookups.{is_key, table_names, column_names}
 use Rattle.sv_app.specs.Satisfiable.{checks_of, IsMet, IsSatisfiable, AreSatisfiable}
 use Rattle.sv_app.specs.Schema.{Declaration}
-use Rattle.sv_app.specs.Typing.{fault_if, is_text, is_numdelta, has_merge_kind, is_merged_wrong, repeats, key_faults, column_faults, rule_faults, table_faults}
+use Rattle.sv_app.specs.Typing.{fault_if, is_text, is_numdelta, is_misplaced, is_merged_wrong, repeats, key_faults, column_faults, rule_faults, table_faults}
 
 -- what holds of all holds of the one that stands there
 pub all_at : {A : Type 0} (P : A → Type 0) (xs : List A) (n : ℕ) (x : A) → All P xs → slice_get xs n ≡ Some x → P x
@@ -59,23 +59,23 @@ columns_right schema accepted number table at =
     (front_none (key_faults table ++ column_faults table) (flat_map (λ inv. rule_faults schema table inv.rule) table.invs) (table_right schema accepted number table at))
 
 -- a column that is merged as a number isn't a text
-merged_right : (table : Declaration) (column : Column) (merge : Merge) (ty : Ty) (key : Bool) → merge ≡ NumDelta → ty ≢ Ints
-    → ((has_merge_kind merge && key) || (is_numdelta merge && is_text ty)) ≡ false → ty ≡ Int
-merged_right table column merge Int key is not_list right = refl
-merged_right table column merge Text key is not_list right = absurd (wrong key (subst (λ m. ((has_merge_kind m && key) || (is_numdelta m && true)) ≡ false) is right))
+merged_right : (table : Declaration) (column : Column) (merge : Merge) (ty : Ty) → merge ≡ NumDelta → ty ≢ Ints
+    → (is_key table column.name || is_text ty) ≡ false → ty ≡ Int
+merged_right table column merge Int is not_list right = refl
+merged_right table column merge Text is not_list right = absurd (wrong (is_key table column.name) right)
   where
-    wrong : (b : Bool) → ((true && b) || true) ≡ false → ⊥
+    wrong : (b : Bool) → (b || true) ≡ false → ⊥
     wrong true e = cc
     wrong false e = cc
-merged_right table column merge Ints key is not_list right = absurd (not_list refl)
+merged_right table column merge Ints is not_list right = absurd (not_list refl)
 
 pub counter_is_int : (schema : List Declaration) → AcceptedSchema schema → (number place : ℕ) (table : Declaration) (column : Column) → slice_get schema number ≡ Some table
     → slice_get table.columns place ≡ Some column → column.merge ≡ NumDelta → column.ty ≡ Int
 counter_is_int schema accepted number place table column at at_column is =
-    merged_right table column column.merge column.ty (is_key table column.name) is (no_lists schema accepted number place table column at at_column)
-    (no_fault (is_merged_wrong table column) column.name.spot Typing
+    merged_right table column column.merge column.ty is (no_lists schema accepted number place table column at at_column)
+    (subst (λ merge. is_misplaced table column merge ≡ false) is (no_fault (is_merged_wrong table column) column.name.spot Typing
     (each_none (λ c. fault_if (is_merged_wrong table c) c.name.spot Typing) table.columns place column
-    (back_none (repeats (column_names table)) (flat_map (λ c. fault_if (is_merged_wrong table c) c.name.spot Typing) table.columns) (columns_right schema accepted number table at)) at_column))
+    (back_none (repeats (column_names table)) (flat_map (λ c. fault_if (is_merged_wrong table c) c.name.spot Typing) table.columns) (columns_right schema accepted number table at)) at_column)))
 
 -- a table without checks, and one table alone
 pub unchecked : (t : Declaration) → checks_of t ≡ [] → IsSatisfiable t

@@ -1,4 +1,5 @@
 pub mod AcceptedLaws
+pub mod DrawLaws
 pub mod ListLaws
 pub mod PlaceLaws
 pub mod SchemaLaws

@@ -1,7 +1,7 @@
 -- The numbers of refusals.
 use Rattle.std.specs.Prelude.{ℕ}
 use Rattle.sv_app.specs.declared.refusals.Code.{Code}
-use Rattle.sv_app.specs.declared.refusals.Code.TheVariants.{Syntax, Unknown, Twice, Kind, Typing, Many, Cyclic, Unsatisfiable, BadInit, TooLong, BadStep}
+use Rattle.sv_app.specs.declared.refusals.Code.TheVariants.{Syntax, Unknown, Twice, Kind, Typing, Many, Cyclic, Unsatisfiable, BadInit, TooLong, BadStep, Reserved}
 
 abbrev pub number_of : Code → ℕ
 number_of Syntax = 1
@@ -15,3 +15,4 @@ number_of (Unsatisfiable table cycle) = 8
 number_of (BadInit inv row) = 9
 number_of TooLong = 10
 number_of BadStep = 11
+number_of Reserved = 12

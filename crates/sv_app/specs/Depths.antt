@@ -24,6 +24,7 @@ use Rattle.sv_app.specs.Trees.{
   ForRows,
   ForEach,
   Insert,
+  Fresh,
   Update,
   Remove,
   Abort,
@@ -60,6 +61,7 @@ depths (ForRows r t None body) = []
 depths (ForRows r t (Some c) body) = test_depth c ∷ []
 depths (ForEach x l body) = []
 depths (Insert t vs) = map term_depth vs
+depths (Fresh x t vs) = map term_depth vs
 depths (Update t k ss) = map term_depth k ++ map (λ s. term_depth s.1) ss
 depths (Remove t k) = map term_depth k
 depths (Abort n) = []
@@ -75,6 +77,7 @@ abbrev mutual
   inner_depth (ForRows r t c body) = block_depth body
   inner_depth (ForEach x l body) = block_depth body
   inner_depth (Insert t vs) = 0
+  inner_depth (Fresh x t vs) = 0
   inner_depth (Update t k ss) = 0
   inner_depth (Remove t k) = 0
   inner_depth (Abort n) = 0

@@ -4,6 +4,7 @@ pub mod CodedTables
 pub mod Codes
 pub mod Conditions
 pub mod Depths
+pub mod Draws
 pub mod Firsts
 pub mod Fitting
 pub mod Kinds

@@ -2,7 +2,7 @@
 use Rattle.std.specs.Option.{option_map}
 use Rattle.sv_app.specs.declared.parts.Parts.{Parts}
 use Rattle.sv_app.specs.declared.parts.Parts.TheVariants as parts
-use Rattle.sv_app.specs.Trees.{Command, Declare, Assign, Fetch, Choose, ForRows, ForEach, Insert, Update, Remove, Abort, Reply, term_of, test_of, terms_of, sets_of, block_of}
+use Rattle.sv_app.specs.Trees.{Command, Declare, Assign, Fetch, Choose, ForRows, ForEach, Insert, Fresh, Update, Remove, Abort, Reply, term_of, test_of, terms_of, sets_of, block_of}
 
 abbrev pub command_of_parts : Parts → Command
 command_of_parts (parts.Let x e) = Declare x (term_of e.now)
@@ -12,6 +12,7 @@ command_of_parts (parts.If c ys ns) = Choose (test_of c.now) (block_of ys.now) (
 command_of_parts (parts.Rows r t c body) = ForRows r t (option_map test_of c.now) (block_of body.now)
 command_of_parts (parts.Each x l body) = ForEach x l (block_of body.now)
 command_of_parts (parts.Insert t vs) = Insert t (terms_of vs.now)
+command_of_parts (parts.Fresh x t vs) = Fresh x t (terms_of vs.now)
 command_of_parts (parts.Update t k ss) = Update t (terms_of k.now) (sets_of ss.now)
 command_of_parts (parts.Remove t k) = Remove t (terms_of k.now)
 command_of_parts (parts.Abort n) = Abort n

@@ -13,7 +13,7 @@ use Rattle.sv_app.specs.declared.schemas.Ty.TheVariants as types
 use Rattle.sv_app.specs.Schema.{Declaration}
 use Rattle.sv_app.specs.Slots.{item, with_item}
 use Rattle.sv_app.specs.Symbols.{is_known, is_factor, is_key_column, block_assigns, known_after}
-use Rattle.sv_app.specs.Trees.{Term, Number, Words, Variable, Field, Old, Minus, Sum, Difference, Product, Test, Compare, Negation, Both, Either, Command, Declare, Assign, Fetch, Choose, ForRows, ForEach, Insert, Update, Remove, Abort, Reply, Block, Finish, Then, Transaction}
+use Rattle.sv_app.specs.Trees.{Term, Number, Words, Variable, Field, Old, Minus, Sum, Difference, Product, Test, Compare, Negation, Both, Either, Command, Declare, Assign, Fetch, Choose, ForRows, ForEach, Insert, Fresh, Update, Remove, Abort, Reply, Block, Finish, Then, Transaction}
 use Rattle.sv_app.specs.Kinds.{is_grow_only}
 
 -- the types of variables, and the tables of row variables, by the numbers of names
@@ -56,6 +56,7 @@ abbrev mutual
   command_names schema (ForRows r t c body) names = block_names schema body (with_table r.num t.num names)
   command_names schema (ForEach x l body) names = block_names schema body (with_type x.num types.Int names)
   command_names schema (Insert t vs) names = names
+  command_names schema (Fresh x t vs) names = with_type x.num types.Int names
   command_names schema (Update t k ss) names = names
   command_names schema (Remove t k) names = names
   command_names schema (Abort n) names = names
@@ -131,6 +132,7 @@ abbrev pub now_way : Merge → ℕ → Way → Way
 now_way merges.NumDelta c w = brought_old c types.Int w
 now_way merges.Plain c w = w
 now_way merges.Lww c w = w
+now_way merges.Fresh c w = w
 
 abbrev pub sets_way : List Declaration → Names → ℕ → List (Ident × Term) → Way → Way
 sets_way schema names table [] w = w
@@ -141,6 +143,7 @@ abbrev pub kept_way : Merge → Way → Way
 kept_way merges.NumDelta w = put types.Int w
 kept_way merges.Plain w = w
 kept_way merges.Lww w = w
+kept_way merges.Fresh w = w
 
 abbrev pub columns_way : Declaration → ℕ → List Column → Way → Way
 columns_way table c [] w = w
@@ -170,6 +173,7 @@ on_side (Tells false w) f g = g w
 abbrev pub forgetting : Way → Way
 forgetting w = record w { known_old = [] }
 
+-- the expression that a variable was given is its form; a drawn key is a symbol of its own, brought in last
 abbrev pub formed : ℕ → Way → Way
 formed x w = record w { known = w.known ++ sources.Variable x ∷ [] }
 
@@ -186,6 +190,7 @@ abbrev mutual
   command_path schema names (ForRows r t c body) w = after_loop body w
   command_path schema names (ForEach x l body) w = after_loop body w
   command_path schema names (Insert t vs) w = Leads (insert_way (slice_get schema t.num) (terms_way schema names vs w))
+  command_path schema names (Fresh x t vs) w = Leads (formed x.num (put types.Int (terms_way schema names vs w)))
   command_path schema names (Update t k ss) w = Leads (forgetting (sets_way schema names t.num ss (forgetting (terms_way schema names k w))))
   command_path schema names (Remove t k) w = Leads (terms_way schema names k w)
   command_path schema names (Abort n) w = Aborts w

@@ -1,6 +1,6 @@
 -- All statements of a block, nested ones too, in the order of their first tokens.
 use Rattle.std.specs.Prelude.{List, [], ◌∷◌, ◌++◌}
-use Rattle.sv_app.specs.Trees.{Command, Declare, Assign, Fetch, Choose, ForRows, ForEach, Insert, Update, Remove, Abort, Reply, Block, Finish, Then}
+use Rattle.sv_app.specs.Trees.{Command, Declare, Assign, Fetch, Choose, ForRows, ForEach, Insert, Fresh, Update, Remove, Abort, Reply, Block, Finish, Then}
 
 abbrev mutual
   -- those in the blocks of a statement
@@ -12,6 +12,7 @@ abbrev mutual
   inner_statements (ForRows r t c body) = block_statements body
   inner_statements (ForEach x l body) = block_statements body
   inner_statements (Insert t vs) = []
+  inner_statements (Fresh x t vs) = []
   inner_statements (Update t k ss) = []
   inner_statements (Remove t k) = []
   inner_statements (Abort n) = []

@@ -4,7 +4,7 @@ use Rattle.std.specs.List.{list_any}
 use Rattle.sv_app.specs.declared.apps.Ident.{Ident}
 use Rattle.sv_app.specs.declared.instances.Source.{Source}
 use Rattle.sv_app.specs.declared.instances.Source.TheVariants as sources
-use Rattle.sv_app.specs.Trees.{Term, Number, Minus, Command, Declare, Assign, Fetch, Choose, ForRows, ForEach, Insert, Update, Remove, Abort, Reply, Block, Finish, Then}
+use Rattle.sv_app.specs.Trees.{Term, Number, Minus, Command, Declare, Assign, Fetch, Choose, ForRows, ForEach, Insert, Fresh, Update, Remove, Abort, Reply, Block, Finish, Then}
 
 abbrev pub is_same_source : Source → Source → Bool
 is_same_source (sources.Variable x) (sources.Variable y) = x == y
@@ -37,6 +37,7 @@ abbrev mutual
   command_assigns (ForRows r t c body) = block_assigns body
   command_assigns (ForEach x l body) = block_assigns body
   command_assigns (Insert t vs) = []
+  command_assigns (Fresh x t vs) = []
   command_assigns (Update t k ss) = []
   command_assigns (Remove t k) = []
   command_assigns (Abort n) = []

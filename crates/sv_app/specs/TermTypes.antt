@@ -4,7 +4,7 @@ use Rattle.std.specs.Option.{option_map, option_and_then}
 use Rattle.sv_value.specs.declared.spots.Spot.{Spot}
 use Rattle.sv_app.specs.declared.apps.Ident.{Ident}
 use Rattle.sv_app.specs.declared.names.Meaning.{Meaning}
-use Rattle.sv_app.specs.declared.names.Meaning.TheVariants.{Parameter, Variable as Local, Row, Element}
+use Rattle.sv_app.specs.declared.names.Meaning.TheVariants.{Parameter, Variable as Local, Row, Constant}
 use Rattle.sv_app.specs.declared.schemas.Ty.{Ty}
 use Rattle.sv_app.specs.declared.schemas.Ty.TheVariants.{Int, Text, Ints}
 use Rattle.sv_app.specs.Lookups.{column_of, table_of, holds_of}
@@ -24,7 +24,7 @@ type_meant None = None
 type_meant (Some (Parameter ty)) = value_type ty
 type_meant (Some (Local ty)) = ty
 type_meant (Some (Row table)) = None
-type_meant (Some Element) = Some Int
+type_meant (Some Constant) = Some Int
 
 abbrev pub column_type : List Declaration → Ident → Ident → Option Ty
 column_type schema table column = option_and_then (λ t. option_map (λ c. c.ty) (column_of t column)) (table_of schema table)
@@ -34,7 +34,7 @@ field_type schema None column = None
 field_type schema (Some (Parameter ty)) column = None
 field_type schema (Some (Local ty)) column = None
 field_type schema (Some (Row table)) column = column_type schema table column
-field_type schema (Some Element) column = None
+field_type schema (Some Constant) column = None
 
 abbrev pub old_type : List Declaration → Option Ident → Ident → Option Ty
 old_type schema None column = None

@@ -38,6 +38,7 @@ mutual
     ForRows : Ident → Ident → Option Test → Block → Command
     ForEach : Ident → Ident → Block → Command
     Insert : Ident → List Term → Command
+    Fresh : Ident → Ident → List Term → Command
     Update : Ident → List Term → List (Ident × Term) → Command
     Remove : Ident → List Term → Command
     Abort : ℕ → Command
@@ -84,6 +85,7 @@ abbrev mutual
   command_of (stmts.Rows' r t c p body) = ForRows r t (option_map test_of c) (block_of_row body)
   command_of (stmts.Each' x l p body) = ForEach x l (block_of_row body)
   command_of (stmts.Insert t vs) = Insert t (terms_of vs.items)
+  command_of (stmts.Fresh x t vs) = Fresh x t (terms_of vs.items)
   command_of (stmts.Update t k ss) = Update t (terms_of k.items) (sets_of ss.items)
   command_of (stmts.Remove t k) = Remove t (terms_of k.items)
   command_of (stmts.Abort n) = Abort n

@@ -4,7 +4,7 @@ use Rattle.std.specs.List.{All, flat_map, filter}
 use Rattle.sv_app.specs.Depths.{depths, block_depth}
 use Rattle.sv_app.specs.Limits.{most_txns, most_params, most_statements, most_loops, most_variables, most_blocks, most_depth, most_code}
 use Rattle.sv_app.specs.Statements.{block_statements}
-use Rattle.sv_app.specs.Trees.{Term, Command, Declare, Assign, Fetch, Choose, ForRows, ForEach, Insert, Update, Remove, Abort, Reply, Block, Transaction}
+use Rattle.sv_app.specs.Trees.{Term, Command, Declare, Assign, Fetch, Choose, ForRows, ForEach, Insert, Fresh, Update, Remove, Abort, Reply, Block, Transaction}
 
 abbrev pub is_loop : Command → Bool
 is_loop (Declare x e) = false
@@ -14,6 +14,7 @@ is_loop (Choose c ys ns) = false
 is_loop (ForRows r t c body) = true
 is_loop (ForEach x l body) = true
 is_loop (Insert t vs) = false
+is_loop (Fresh x t vs) = false
 is_loop (Update t k ss) = false
 is_loop (Remove t k) = false
 is_loop (Abort n) = false
@@ -27,6 +28,7 @@ is_declaration (Choose c ys ns) = false
 is_declaration (ForRows r t c body) = false
 is_declaration (ForEach x l body) = false
 is_declaration (Insert t vs) = false
+is_declaration (Fresh x t vs) = true
 is_declaration (Update t k ss) = false
 is_declaration (Remove t k) = false
 is_declaration (Abort n) = false
@@ -49,6 +51,7 @@ KeepsStatement (Choose c ys ns) = Unit {0}
 KeepsStatement (ForRows r t c body) = length (loops_of body) ≡ 0
 KeepsStatement (ForEach x l body) = length (loops_of body) ≡ 0
 KeepsStatement (Insert t vs) = 1 ≤ length vs
+KeepsStatement (Fresh x t vs) = Unit {0}
 KeepsStatement (Update t k ss) = IsKey k × (1 ≤ length ss)
 KeepsStatement (Remove t k) = IsKey k
 KeepsStatement (Abort n) = n ≤ most_code

@@ -5,7 +5,7 @@ use Rattle.sv_app.specs.declared.apps.Ident.{Ident}
 use Rattle.sv_app.specs.declared.names.Declared.{Declared}
 use Rattle.sv_app.specs.declared.schemas.Ty.{Ty}
 use Rattle.sv_app.specs.Statements.{block_statements}
-use Rattle.sv_app.specs.Trees.{Command, Declare, Assign, Fetch, Choose, ForRows, ForEach, Insert, Update, Remove, Abort, Reply, Transaction}
+use Rattle.sv_app.specs.Trees.{Command, Declare, Assign, Fetch, Choose, ForRows, ForEach, Insert, Fresh, Update, Remove, Abort, Reply, Transaction}
 
 abbrev pub plain_name : Ident → Declared
 plain_name name = record { name = name; table = None }
@@ -22,6 +22,7 @@ declared_by (Choose c ys ns) = []
 declared_by (ForRows r t c body) = row_name r t ∷ []
 declared_by (ForEach x l body) = plain_name x ∷ []
 declared_by (Insert t vs) = []
+declared_by (Fresh x t vs) = plain_name x ∷ []
 declared_by (Update t k ss) = []
 declared_by (Remove t k) = []
 declared_by (Abort n) = []

@@ -33,6 +33,7 @@ use Rattle.sv_app.specs.Trees.{
   ForRows,
   ForEach,
   Insert,
+  Fresh,
   Update,
   Remove,
   Abort,
@@ -101,6 +102,7 @@ abbrev mutual
   numbered_command by (ForRows r t c body) = ForRows (numbered_name by r) (numbered_table_name by t) (option_map (numbered_test by) c) (numbered_block by body)
   numbered_command by (ForEach x l body) = ForEach (numbered_name by x) (numbered_name by l) (numbered_block by body)
   numbered_command by (Insert t vs) = Insert (numbered_table_name by t) (numbered_terms by vs)
+  numbered_command by (Fresh x t vs) = Fresh (numbered_name by x) (numbered_table_name by t) (numbered_terms by vs)
   numbered_command by (Update t k ss) = Update (numbered_table_name by t) (numbered_terms by k) (map (numbered_set (updating by t)) ss)
   numbered_command by (Remove t k) = Remove (numbered_table_name by t) (numbered_terms by k)
   numbered_command by (Abort n) = Abort n

@@ -1,13 +1,13 @@
 -- What is wrong with the names and types of transactions: each rule says where it is broken. With what is wrong in the schema it is one list.
 use Rattle.std.specs.Prelude.{Bool, true, false, List, [], ◌∷◌, ◌++◌, length, map, Option, Some, None, ◌==◌, ◌&&◌, ◌||◌, not}
-use Rattle.std.specs.List.{flat_map}
+use Rattle.std.specs.List.{flat_map, filter}
 use Rattle.std.specs.Option.{is_none, option_map}
 use Rattle.sv_value.specs.declared.spots.Spot.{Spot}
 use Rattle.sv_app.specs.declared.acts.Act.{Act}
 use Rattle.sv_app.specs.declared.acts.Act.TheVariants as acts
 use Rattle.sv_app.specs.declared.apps.Ident.{Ident}
 use Rattle.sv_app.specs.declared.names.Meaning.{Meaning}
-use Rattle.sv_app.specs.declared.names.Meaning.TheVariants.{Parameter, Variable as Local, Row, Element}
+use Rattle.sv_app.specs.declared.names.Meaning.TheVariants.{Parameter, Variable as Local, Row, Constant}
 use Rattle.sv_app.specs.declared.refusals.Code.TheVariants.{Unknown, Kind, Typing}
 use Rattle.sv_app.specs.declared.refusals.Refusal.{Refusal}
 use Rattle.sv_app.specs.declared.schemas.Ty.{Ty}
@@ -43,6 +43,7 @@ use Rattle.sv_app.specs.Trees.{
   ForRows,
   ForEach,
   Insert,
+  Fresh,
   Update,
   Remove,
   Abort,
@@ -62,7 +63,7 @@ is_no_value (Parameter Text) = false
 is_no_value (Parameter Ints) = true
 is_no_value (Local ty) = false
 is_no_value (Row table) = true
-is_no_value Element = false
+is_no_value Constant = false
 
 -- a name that stands for nothing, or for no value, at the name
 abbrev pub value_faults : Option Meaning → Ident → List Refusal
@@ -78,7 +79,7 @@ field_faults at None row name = fault_if true row.spot Unknown
 field_faults at (Some (Parameter ty)) row name = fault_if true row.spot Typing
 field_faults at (Some (Local ty)) row name = fault_if true row.spot Typing
 field_faults at (Some (Row table)) row name = no_column_of at.schema table name
-field_faults at (Some Element) row name = fault_if true row.spot Typing
+field_faults at (Some Constant) row name = fault_if true row.spot Typing
 
 -- `old` outside the expressions behind `set`, at its place; there, a name that is no column
 abbrev pub old_faults : Scope → Option Ident → Ident → Spot → List Refusal
@@ -157,6 +158,20 @@ each_type_faults at t (column ∷ columns) (e ∷ terms) = type_faults at t colu
 abbrev pub value_list_faults : Scope → Declaration → List Ident → List Term → Ident → List Refusal
 value_list_faults at t columns terms name = count_faults columns terms name ++ each_type_faults at t columns terms
 
+-- the columns but the key, whose values a `fresh` gives
+abbrev pub drawn_columns : Declaration → List Ident
+drawn_columns t = filter (λ name. not (is_key t name)) (column_names t)
+
+abbrev pub drawn_type_faults : Scope → Declaration → List Ident → List Term → Ident → List Refusal
+drawn_type_faults at t [] terms table = []
+drawn_type_faults at t (column ∷ columns) [] table = []
+drawn_type_faults at t (column ∷ columns) (e ∷ terms) table =
+    fault_if (are_apart (option_map (λ c. c.ty) (column_of t column)) (type_of at e)) table.spot Typing ++ drawn_type_faults at t columns terms table
+
+-- a wrong number or type of the values of a `fresh`, at the table's name
+abbrev pub drawn_faults : Scope → Declaration → List Term → Ident → List Refusal
+drawn_faults at t terms table = count_faults (drawn_columns t) terms table ++ drawn_type_faults at t (drawn_columns t) terms table
+
 -- a name behind `set` that is no column, or one of the key, at the name; a value of another type
 abbrev pub set_faults : Scope → Declaration → Ident × Term → List Refusal
 set_faults at t set = no_column t set.0 ++ fault_if (is_key t set.0) set.0.spot Typing ++ type_faults at t set.0 set.1
@@ -170,7 +185,7 @@ assignment_faults at None name e = fault_if true name.spot Unknown
 assignment_faults at (Some (Parameter ty)) name e = fault_if true name.spot Typing
 assignment_faults at (Some (Local ty)) name e = fault_if (are_apart ty (type_of at e)) (spot_of e) Typing
 assignment_faults at (Some (Row table)) name e = fault_if true name.spot Typing
-assignment_faults at (Some Element) name e = fault_if true name.spot Typing
+assignment_faults at (Some Constant) name e = fault_if true name.spot Typing
 
 abbrev pub is_list : Meaning → Bool
 is_list (Parameter Int) = false
@@ -178,7 +193,7 @@ is_list (Parameter Text) = false
 is_list (Parameter Ints) = true
 is_list (Local ty) = false
 is_list (Row table) = false
-is_list Element = false
+is_list Constant = false
 
 -- `each` over a name that stands for nothing, or for no list parameter, at the name
 abbrev pub walk_faults : Option Meaning → Ident → List Refusal
@@ -201,6 +216,7 @@ behind at (Choose c ys ns) = at
 behind at (ForRows r t c body) = at
 behind at (ForEach x l body) = at
 behind at (Insert t vs) = at
+behind at (Fresh x t vs) = knowing at x Constant
 behind at (Update t k ss) = at
 behind at (Remove t k) = at
 behind at (Abort n) = at
@@ -216,6 +232,8 @@ command_faults at (ForRows r t c body) = no_table at.schema t ++ condition_fault
 command_faults at (ForEach x l body) = walk_faults (meaning_of at l) l
 command_faults at (Insert t vs) =
     at_table (table_of at.schema t) t (λ d. kind_faults d acts.Insert t ++ value_list_faults at d (column_names d) vs t) ++ all_term_faults at vs
+command_faults at (Fresh x t vs) =
+    at_table (table_of at.schema t) t (λ d. kind_faults d acts.Fresh t ++ drawn_faults at d vs t) ++ all_term_faults at vs
 command_faults at (Update t k ss) =
     at_table (table_of at.schema t) t (λ d. kind_faults d acts.Update t ++ value_list_faults at d d.key k t ++ sets_faults at t d ss)
     ++ all_term_faults at k ++ repeats (map (λ s. s.0) ss) ++ flat_map (λ s. term_faults (updating at t) s.1) ss
@@ -232,8 +250,9 @@ abbrev mutual
   inner_faults at (Fetch r t k) = []
   inner_faults at (Choose c ys ns) = block_faults at ys ++ block_faults at ns
   inner_faults at (ForRows r t c body) = block_faults (knowing at r (Row t)) body
-  inner_faults at (ForEach x l body) = block_faults (knowing at x Element) body
+  inner_faults at (ForEach x l body) = block_faults (knowing at x Constant) body
   inner_faults at (Insert t vs) = []
+  inner_faults at (Fresh x t vs) = []
   inner_faults at (Update t k ss) = []
   inner_faults at (Remove t k) = []
   inner_faults at (Abort n) = []

@@ -1,6 +1,6 @@
 -- What is wrong with the names and types of a schema: each rule says where it is broken, and all that is found is one list.
 use Rattle.std.specs.Prelude.{Bool, true, false, List, [], ◌∷◌, ◌++◌, length, Option, Some, None, ◌==◌, ◌&&◌, ◌||◌, not, nat_lt, if◌then◌else◌}
-use Rattle.std.specs.List.{flat_map}
+use Rattle.std.specs.List.{flat_map, list_all}
 use Rattle.std.specs.Option.{is_none}
 use Rattle.sv_value.specs.declared.spots.Spot.{Spot}
 use Rattle.sv_app.specs.declared.apps.Ident.{Ident}
@@ -10,10 +10,11 @@ use Rattle.sv_app.specs.declared.refusals.Refusal.{Refusal}
 use Rattle.sv_app.specs.declared.schemas.Check.{Check}
 use Rattle.sv_app.specs.declared.schemas.Column.{Column}
 use Rattle.sv_app.specs.declared.schemas.Merge.{Merge}
-use Rattle.sv_app.specs.declared.schemas.Merge.TheVariants.{Plain, Lww, NumDelta}
+use Rattle.sv_app.specs.declared.schemas.Merge.TheVariants.{Plain, Lww, NumDelta, Fresh}
 use Rattle.sv_app.specs.declared.schemas.Ty.{Ty}
 use Rattle.sv_app.specs.declared.schemas.Ty.TheVariants.{Int, Text, Ints}
 use Rattle.sv_app.specs.Firsts.{is_same_place}
+use Rattle.sv_app.specs.Kinds.{is_annotated}
 use Rattle.sv_app.specs.Lookups.{is_named, column_of, table_of, is_key, holds_of, table_names, column_names}
 use Rattle.sv_app.specs.Schema.{Rule, Bound, OneOf, Different, Refers, Declaration}
 
@@ -35,15 +36,11 @@ is_same_type Int ty = is_int ty
 is_same_type Text ty = is_text ty
 is_same_type Ints ty = not (is_int ty) && not (is_text ty)
 
-abbrev pub has_merge_kind : Merge → Bool
-has_merge_kind Plain = false
-has_merge_kind Lww = true
-has_merge_kind NumDelta = true
-
 abbrev pub is_numdelta : Merge → Bool
 is_numdelta NumDelta = true
 is_numdelta Plain = false
 is_numdelta Lww = false
+is_numdelta Fresh = false
 
 -- each later one of these that has the name of an earlier one, at its name
 abbrev pub repeats : List Ident → List Refusal
@@ -71,9 +68,20 @@ another_key t (Some name) = fault_if true name.spot Twice ++ no_column t name
 abbrev pub key_faults : Declaration → List Refusal
 key_faults t = no_key t ++ another_key t t.second_key ++ repeats t.key ++ flat_map (λ name. no_column t name) t.key
 
--- a merge kind on a key column, and NUMDELTA on a text column, at the column's name
+-- the key names this column and no other
+abbrev pub is_only_key : Declaration → Ident → Bool
+is_only_key t column = is_key t column && list_all (λ name. is_named name column) t.key
+
+-- LWW or NUMDELTA on a key column, NUMDELTA on a text column, and FRESH on a column that isn't an integer, isn't the only one of the key, or is
+-- in an unannotated table, at the column's name
+abbrev pub is_misplaced : Declaration → Column → Merge → Bool
+is_misplaced t c Plain = false
+is_misplaced t c Lww = is_key t c.name
+is_misplaced t c NumDelta = is_key t c.name || is_text c.ty
+is_misplaced t c Fresh = not (is_int c.ty && is_only_key t c.name && is_annotated t.kind)
+
 abbrev pub is_merged_wrong : Declaration → Column → Bool
-is_merged_wrong t c = (has_merge_kind c.merge && is_key t c.name) || (is_numdelta c.merge && is_text c.ty)
+is_merged_wrong t c = is_misplaced t c c.merge
 
 -- a second column of the same name, at its name
 abbrev pub column_faults : Declaration → List Refusal

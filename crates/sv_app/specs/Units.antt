@@ -1,6 +1,6 @@
 -- Units: unit 0 is a transaction's body outside loops, unit k the body of the k-th loop of its text. A loop is known by the number of its variable.
 use Rattle.std.specs.Prelude.{ℕ, suc, ◌==◌, if◌then◌else◌, List, [], ◌∷◌, ◌++◌, map}
-use Rattle.sv_app.specs.Trees.{Command, Declare, Assign, Fetch, Choose, ForRows, ForEach, Insert, Update, Remove, Abort, Reply, Block, Finish, Then}
+use Rattle.sv_app.specs.Trees.{Command, Declare, Assign, Fetch, Choose, ForRows, ForEach, Insert, Fresh, Update, Remove, Abort, Reply, Block, Finish, Then}
 
 -- a loop: its variable's number, and its body
 pub record Loop : Type 0 where
@@ -17,6 +17,7 @@ abbrev mutual
   command_loops (ForRows r t c body) = record { variable = r.num; body = body } ∷ block_loops body
   command_loops (ForEach x l body) = record { variable = x.num; body = body } ∷ block_loops body
   command_loops (Insert t vs) = []
+  command_loops (Fresh x t vs) = []
   command_loops (Update t k ss) = []
   command_loops (Remove t k) = []
   command_loops (Abort n) = []

@@ -1,6 +1,6 @@
 -- Weights of commands and blocks: each part of a block is lighter than the block, so that walks over blocks end.
 use Rattle.std.specs.Prelude.{ℕ, ◌+◌}
-use Rattle.sv_app.specs.Trees.{Command, Declare, Assign, Fetch, Choose, ForRows, ForEach, Insert, Update, Remove, Abort, Reply, Block, Finish, Then}
+use Rattle.sv_app.specs.Trees.{Command, Declare, Assign, Fetch, Choose, ForRows, ForEach, Insert, Fresh, Update, Remove, Abort, Reply, Block, Finish, Then}
 
 abbrev mutual
   pub command_weight : Command → ℕ
@@ -11,6 +11,7 @@ abbrev mutual
   command_weight (ForRows r t c body) = 1 + block_weight body
   command_weight (ForEach x l body) = 1 + block_weight body
   command_weight (Insert t vs) = 1
+  command_weight (Fresh x t vs) = 1
   command_weight (Update t k ss) = 1
   command_weight (Remove t k) = 1
   command_weight (Abort n) = 1

@@ -15,7 +15,7 @@ abbrev pub control_words : List (List ℕ)
 control_words = codes "txn" ∷ codes "let" ∷ codes "get" ∷ codes "if" ∷ codes "else" ∷ codes "for" ∷ codes "each" ∷ codes "abort" ∷ codes "reply" ∷ []
 
 abbrev pub change_words : List (List ℕ)
-change_words = codes "insert" ∷ codes "update" ∷ codes "remove" ∷ codes "set" ∷ codes "where" ∷ codes "and" ∷ codes "or" ∷ codes "not" ∷ codes "old" ∷ []
+change_words = codes "insert" ∷ codes "fresh" ∷ codes "update" ∷ codes "remove" ∷ codes "set" ∷ codes "where" ∷ codes "and" ∷ codes "or" ∷ codes "not" ∷ codes "old" ∷ []
 
 unfoldable pub is_reserved : List ℕ → Bool
 is_reserved word = is_among schema_words word || is_among type_words word || is_among control_words word || is_among change_words word

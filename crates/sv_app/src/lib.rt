@@ -3,6 +3,7 @@
 
 mod acts;
 mod apps;
+mod draws;
 mod gots;
 mod instances;
 pub mod limits;
@@ -18,6 +19,7 @@ mod words;
 
 pub use acts::Act;
 pub use apps::{App, Ident};
+pub use draws::{FIRST_OF_ALL, draws_differ, first_key};
 pub use gots::Got;
 pub use instances::{Instance, Source};
 pub use names::{Declared, Known, Meaning};

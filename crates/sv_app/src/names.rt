@@ -10,8 +10,8 @@ pub enum Meaning {
     Variable(Option<Ty>),
     /// A row of the table of that name.
     Row(Ident),
-    /// An element of a list of integers.
-    Element,
+    /// An integer that isn't assigned: an element of a list, or a key that was drawn.
+    Constant,
 }
 
 /// A name that may be used inside a transaction, and what it stands for.

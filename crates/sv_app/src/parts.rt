@@ -42,6 +42,11 @@ pub enum Parts<'a> {
         table: Ident,
         values: &'a [Expr],
     },
+    Fresh {
+        var: Ident,
+        table: Ident,
+        values: &'a [Expr],
+    },
     Update {
         table: Ident,
         key: &'a [Expr],
@@ -88,6 +93,11 @@ pub fn parts_of(stmt: &Stmt) -> Parts<'_>
             body,
         },
         Stmt::Insert { table, values } => Parts::Insert {
+            table: *table,
+            values,
+        },
+        Stmt::Fresh { var, table, values } => Parts::Fresh {
+            var: *var,
             table: *table,
             values,
         },

@@ -30,6 +30,8 @@ pub enum Code {
     TooLong,
     /// A number of a session, a site or a packet that isn't allowed in a step.
     BadStep,
+    /// An initial row under a key that is left to be drawn.
+    Reserved,
 }
 
 impl Code {
@@ -49,6 +51,7 @@ impl Code {
             Code::BadInit { .. } => 9,
             Code::TooLong => 10,
             Code::BadStep => 11,
+            Code::Reserved => 12,
         }
     }
 }

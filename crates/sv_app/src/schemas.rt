@@ -25,6 +25,8 @@ pub enum Merge {
     Lww,
     /// Numbers are added.
     NumDelta,
+    /// Each key is drawn, and no two draws are equal. A table whose key column is marked so is fresh.
+    Fresh,
 }
 
 /// The type of a column or of a parameter. No column has the type of lists.

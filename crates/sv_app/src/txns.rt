@@ -77,6 +77,12 @@ pub enum Stmt {
         table: Ident,
         values: Vec<Expr>,
     },
+    /// An insert under a key that is drawn, which the variable gets; the values are those of the other columns.
+    Fresh {
+        var: Ident,
+        table: Ident,
+        values: Vec<Expr>,
+    },
     Update {
         table: Ident,
         key: Vec<Expr>,

@@ -18,8 +18,8 @@ const CONTROL_WORDS: [&[u8]; 9] = [
     b"txn", b"let", b"get", b"if", b"else", b"for", b"each", b"abort", b"reply",
 ];
 
-const CHANGE_WORDS: [&[u8]; 9] = [
-    b"insert", b"update", b"remove", b"set", b"where", b"and", b"or", b"not", b"old",
+const CHANGE_WORDS: [&[u8]; 10] = [
+    b"insert", b"fresh", b"update", b"remove", b"set", b"where", b"and", b"or", b"not", b"old",
 ];
 
 /// Whether the word is one of these.

@@ -21,7 +21,8 @@ use Rattle.sv_effect.specs.RunChanges as runs
 use Rattle.sv_effect.specs.RunValues.{nothing}
 use Rattle.sv_effect.specs.Applied.{place_of, columns_of, annotation_of, columns_in, annotated_in}
 use Rattle.sv_effect.specs.Fits.{HasType, KeyFits, is_key_column, FitsSchema, AllFit, OpFits}
-use Rattle.sv_effect.specs.Threatened.{is_plain_column, is_plain, any_threatened}
+use Rattle.sv_app.specs.Kinds.{is_unmerged}
+use Rattle.sv_effect.specs.Threatened.{is_plain_column, any_threatened}
 use Rattle.sv_store.specs.Initial.{ValuesFit, InitFits}
 use Rattle.sv_core.specs.CounterTable.{AreCounterColumns, IsKeyName, HasCounterColumns, IsCounterSchema}
 use Rattle.sv_core.specs.Run.{key_of, change_by}
@@ -101,7 +102,7 @@ pub unthreatened : (schema : List Declaration) → Counter schema → (n delta :
 unthreatened schema c n delta es only =
     ap (any_threatened schema) only
     ∙ ap (λ cs. ((is_plain_column cs 1 || false) || false) || false) (columns_at schema c (place_of (change_by (key_of n) delta)) refl)
-    ∙ ap (λ m. ((is_plain m || false) || false) || false) c.are.counter_merge
+    ∙ ap (λ m. ((is_unmerged m || false) || false) || false) c.are.counter_merge
 
 pub op_fits : (schema : List Declaration) → Counter schema → (n delta : ℤ) (op : Op) → op.effects ≡ change_by (key_of n) delta ∷ [] → 1 ≤ op.time → OpFits schema op
 op_fits schema c n delta op only timed = record {

@@ -8,6 +8,7 @@ use Rattle.sv_value.specs.declared.values.Val.{Val}
 use Rattle.sv_value.specs.declared.stamps.Stamp.{Stamp}
 use Rattle.sv_app.specs.declared.schemas.Merge.{Merge}
 use Rattle.sv_app.specs.declared.schemas.Merge.TheVariants as merges
+use Rattle.sv_app.specs.Kinds.{is_unmerged}
 use Rattle.sv_effect.specs.declared.cells.Cell.{Cell}
 use Rattle.sv_effect.specs.declared.cells.Cell.TheVariants.{Count}
 use Rattle.sv_effect.specs.declared.ops.Write.{Write}
@@ -110,7 +111,7 @@ grown_sets f g o more grown = record {
 
 -- a cell by its query, with more writes by one origin
 pub cell_more : (merge : Merge) (v : Val) (f g : Family (Stamped Write)) (o : ℕ) (more : List (Stamped Write)) → Grown f g o more → o < 9
-    → Alone (all_to (λ p. sets_of (g p)) 9) → Late (all_to (λ p. sets_of (g p)) 9) → (merge ≡ merges.Plain → (o ≡ 0) ⊎ (sets_of more ≡ []))
+    → Alone (all_to (λ p. sets_of (g p)) 9) → Late (all_to (λ p. sets_of (g p)) 9) → (is_unmerged merge ≡ true → (o ≡ 0) ⊎ (sets_of more ≡ []))
     → cell_by merge v g ≡ all_made more (cell_by merge v f)
 cell_more merges.NumDelta v f g o more grown small alone late plain =
     ap (λ k. Count k) sums ∙ sym (made_count more (number_in v +ℤ sum_to (λ p. sum_of (f p)) 9))
@@ -124,5 +125,8 @@ cell_more merges.Lww v f g o more grown small alone late plain =
     ap last_cell (greatest_more v (λ p. sets_of (f p)) (λ p. sets_of (g p)) o (sets_of more) (grown_sets f g o more grown) small alone late)
     ∙ sym (made_last more (greatest (started v) (all_to (λ p. sets_of (f p)) 9)))
 cell_more merges.Plain v f g o more grown small alone late plain =
+    ap plain_cell (last_more (started v) (λ p. sets_of (f p)) (λ p. sets_of (g p)) o (sets_of more) (grown_sets f g o more grown) (plain refl))
+    ∙ sym (made_plain more (last (started v) (sets_of (f 0))))
+cell_more merges.Fresh v f g o more grown small alone late plain =
     ap plain_cell (last_more (started v) (λ p. sets_of (f p)) (λ p. sets_of (g p)) o (sets_of more) (grown_sets f g o more grown) (plain refl))
     ∙ sym (made_plain more (last (started v) (sets_of (f 0))))

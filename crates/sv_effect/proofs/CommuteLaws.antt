@@ -17,7 +17,8 @@ use Rattle.sv_effect.specs.StampedTables.{Stamped, StampedRow}
 use Rattle.sv_effect.specs.RowChange.{each, turn_of, cell_from, cells_from}
 use Rattle.sv_effect.specs.Applied.{Change, changes_of, columns_in, annotated_in, zeros_in, zero_row_in, applied}
 use Rattle.sv_effect.specs.Fits.{CellFits, CellsFit}
-use Rattle.sv_effect.specs.Threatened.{is_plain, is_plain_column, any_threatened}
+use Rattle.sv_app.specs.Kinds.{is_unmerged}
+use Rattle.sv_effect.specs.Threatened.{is_plain_column, any_threatened}
 use Rattle.sv_effect.specs.TablesOfCut.{at_place, to_column, writes_to, turn_by, turns_of}
 use Rattle.sv_effect.specs.Commutes.{Apart, Commutes}
 use Rattle.sv_effect.proofs.Members.{Comes, comes}
@@ -79,15 +80,15 @@ rows_both annotated columns cs ds row merging settled strange = λ i. record { c
         ∙ turned_both annotated (turns_of cs) (turns_of ds) (strange_turns ds cs strange) merging.turns row.mark
         ∙ sym (changed_mark annotated ds (changed_all annotated cs row) ∙ ap (all_turned annotated (turns_of ds)) (changed_mark annotated cs row))
 
-plain_merges : (merge : Merge) (cell : Cell) → ((v : Val) → cell ≡ Plain v → merge ≡ merges.Plain) → is_plain merge ≡ false → Merges cell
+plain_merges : (merge : Merge) (cell : Cell) → ((v : Val) → cell ≡ Plain v → is_unmerged merge ≡ true) → is_unmerged merge ≡ false → Merges cell
 plain_merges merge (Count n) plain is = tt
 plain_merges merge (Last v s) plain is = tt
-plain_merges merge (Plain v) plain is = absurd (clash (sym (ap is_plain (plain v refl)) ∙ is))
+plain_merges merge (Plain v) plain is = absurd (clash (sym (plain v refl) ∙ is))
   where
     clash : true ≡ false → ⊥
     clash e = cc
 
-fit_merges : (column : Column) (cell : Cell) → CellFits column cell → is_plain column.merge ≡ false → Merges cell
+fit_merges : (column : Column) (cell : Cell) → CellFits column cell → is_unmerged column.merge ≡ false → Merges cell
 fit_merges column (Count n) fits is = tt
 fit_merges column (Last v s) fits is = tt
 fit_merges column (Plain v) fits is = plain_merges column.merge (Plain v) (λ w e. fits.0) is
@@ -98,8 +99,9 @@ fit_settled [] (cell ∷ cells) fits = absurd fits
 fit_settled (column ∷ columns) [] fits = tt
 fit_settled (column ∷ columns) (cell ∷ cells) fits = (λ is. fit_merges column cell fits.0 is, fit_settled columns cells fits.1)
 
-from_merges : (merge : Merge) (v : Val) → is_plain merge ≡ false → Merges (cell_from merge v)
+from_merges : (merge : Merge) (v : Val) → is_unmerged merge ≡ false → Merges (cell_from merge v)
 from_merges merges.Plain v is = absurd cc
+from_merges merges.Fresh v is = absurd cc
 from_merges merges.Lww v is = tt
 from_merges merges.NumDelta (Int n) is = tt
 from_merges merges.NumDelta (Text b) is = tt

@@ -7,6 +7,7 @@ use Rattle.sv_value.specs.Orders.{stamp_cmp}
 use Rattle.sv_value.specs.declared.stamps.Stamp.{Stamp}
 use Rattle.sv_app.specs.declared.schemas.Column.{Column}
 use Rattle.sv_app.specs.declared.schemas.Merge.TheVariants as merges
+use Rattle.sv_app.specs.Kinds.{is_unmerged}
 use Rattle.sv_app.specs.Schema.{Declaration}
 use Rattle.sv_effect.specs.declared.cells.Cell.{Cell}
 use Rattle.sv_effect.specs.declared.cells.Cell.TheVariants.{Count, Last, Plain}
@@ -92,7 +93,7 @@ made_once s w ws cell above = rw (same_test w.0 w.0 refl) (made_past s w.0 ws (w
 suits_one : (column : Column) (s : Stamp) (w : Write) (cell : Cell) → WriteFits column w → CellFits column cell → ((k : ℤ) → written s w cell ≡ Count k → IsNarrow k) → Suits w cell
 suits_one column s (Delta d) (Count n) w fits narrow = narrow (n +ℤ d) refl
 suits_one column s (Delta d) (Last v t) w fits narrow = absurd (let e : merges.NumDelta ≡ merges.Lww = sym w ∙ fits.0 in cc)
-suits_one column s (Delta d) (Plain v) w fits narrow = absurd (let e : merges.NumDelta ≡ merges.Plain = sym w ∙ fits.0 in cc)
+suits_one column s (Delta d) (Plain v) w fits narrow = absurd (let e : is_unmerged merges.NumDelta ≡ true = ap is_unmerged (sym w) ∙ fits.0 in cc)
 suits_one column s (Set x) (Count n) w fits narrow = absurd (w.0 fits)
 suits_one column s (Set x) (Last v t) w fits narrow = tt
 suits_one column s (Set x) (Plain v) w fits narrow = tt

@@ -12,6 +12,7 @@ use Rattle.sv_app.specs.declared.schemas.Merge.{Merge}
 use Rattle.sv_app.specs.declared.schemas.Merge.TheVariants as merges
 use Rattle.sv_app.specs.declared.schemas.Ty.{Ty}
 use Rattle.sv_app.specs.declared.schemas.Ty.TheVariants as types
+use Rattle.sv_app.specs.Kinds.{is_unmerged}
 use Rattle.sv_app.specs.Schema.{Declaration}
 use Rattle.sv_app.proofs.PlaceLaws.{place_total, exact_places}
 use Rattle.sv_effect.specs.declared.ops.RowEffect.{RowEffect}
@@ -49,7 +50,8 @@ zero_type types.Text apart = tt
 zero_type types.Ints apart = absurd (apart refl)
 
 pub from_fits : (column : Column) (v : Val) (merge : Merge) → column.merge ≡ merge → HasType column.ty v → CellFits column (cell_from merge v)
-from_fits column v merges.Plain is has = (is, has)
+from_fits column v merges.Plain is has = (ap is_unmerged is, has)
+from_fits column v merges.Fresh is has = (ap is_unmerged is, has)
 from_fits column v merges.Lww is has = (is, has)
 from_fits column (Int n) merges.NumDelta is has = is
 from_fits column (Text b) merges.NumDelta is has = is

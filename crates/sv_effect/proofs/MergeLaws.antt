@@ -15,7 +15,8 @@ use Rattle.sv_effect.specs.declared.ops.Write.{Write}
 use Rattle.sv_effect.specs.declared.ops.Write.TheVariants.{Delta, Set}
 use Rattle.sv_effect.specs.StampedTables.{Stamped}
 use Rattle.sv_effect.specs.RowChange.{later, last_cell, written, each}
-use Rattle.sv_effect.specs.Threatened.{is_plain, is_plain_column}
+use Rattle.sv_app.specs.Kinds.{is_unmerged}
+use Rattle.sv_effect.specs.Threatened.{is_plain_column}
 use Rattle.sv_effect.proofs.Members.{In}
 use Rattle.sv_effect.proofs.CellLaws.{all_made}
 use Rattle.sv_effect.proofs.RowLaws.{all_turned}
@@ -98,7 +99,7 @@ turned_lists ts (u ∷ us) mark apart =
 abbrev pub Settled : List Column → List Cell → Type 0
 Settled columns [] = Unit {0}
 Settled [] (cell ∷ cells) = ⊥
-Settled (column ∷ columns) (cell ∷ cells) = (is_plain column.merge ≡ false → Merges cell) × Settled columns cells
+Settled (column ∷ columns) (cell ∷ cells) = (is_unmerged column.merge ≡ false → Merges cell) × Settled columns cells
 
 pub each_both : (f g : ℕ → Cell → Cell) (k : ℕ) (columns : List Column) (cells : List Cell) → Settled columns cells
     → ((j : ℕ) (cell : Cell) → (is_plain_column columns j ≡ false → Merges cell) → f (k + j) (g (k + j) cell) ≡ g (k + j) (f (k + j) cell))

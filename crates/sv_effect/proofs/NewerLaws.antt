@@ -18,6 +18,7 @@ use Rattle.sv_app.specs.declared.schemas.Merge.{Merge}
 use Rattle.sv_app.specs.declared.schemas.Merge.TheVariants as merges
 use Rattle.sv_app.specs.declared.schemas.Ty.TheVariants as types
 use Rattle.sv_app.specs.Accepted.{AcceptedSchema}
+use Rattle.sv_app.specs.Kinds.{is_unmerged}
 use Rattle.sv_app.specs.Schema.{Declaration}
 use Rattle.sv_app.specs.Slots.{with_item}
 use Rattle.sv_app.proofs.AcceptedLaws.{counter_is_int, no_lists}
@@ -173,7 +174,7 @@ shown table op n ws row fits writes under c w is = record { cell = at.cell; at =
     by : (w : Write) → WriteFits fit.column w → (cell : Cell) → CellFits fit.column cell → Beaten op n cell → value_of (written (stamp_of op n) w cell) ≡ written_got w (value_of cell)
     by (Delta d) f (Count k) g b = refl
     by (Delta d) f (Last v t) g b = absurd (let same : merges.NumDelta ≡ merges.Lww = sym f ∙ g.0 in cc)
-    by (Delta d) f (Plain v) g b = absurd (let same : merges.NumDelta ≡ merges.Plain = sym f ∙ g.0 in cc)
+    by (Delta d) f (Plain v) g b = absurd (let same : is_unmerged merges.NumDelta ≡ true = ap is_unmerged (sym f) ∙ g.0 in cc)
     by (Set v) f (Count k) g b = absurd (f.0 g)
     by (Set v) f (Last x t) g b = ap (λ r. value_of (last_cell (if r then (record { value = v; stamp = stamp_of op n }) else (record { value = x; stamp = t })))) (b n (omega arith))
     by (Set v) f (Plain x) g b = refl
@@ -241,6 +242,7 @@ zero_cells op n (column ∷ columns) (v ∷ vs) some zero cell e = let same : ce
   where
     by : (merge : Merge) (v : Val) → Beaten op n (cell_from merge v)
     by merges.Plain v = tt
+    by merges.Fresh v = tt
     by merges.Lww v = λ m le. zero_loses (stamp_of op m) some
     by merges.NumDelta (Int k) = tt
     by merges.NumDelta (IsText b) = tt
@@ -271,6 +273,7 @@ zeros_bare table key k (column ∷ columns) fits at lists ints =
 
     by : (merge : Merge) → column.merge ≡ merge → (v : Val) → HasType column.ty v → value_of (cell_from merge v) ≡ got_of v
     by merges.Plain is v has = refl
+    by merges.Fresh is v has = refl
     by merges.Lww is v has = refl
     by merges.NumDelta is (Int n) has = refl
     by merges.NumDelta is (IsText b) has = absurd (subst (λ ty. HasType ty (IsText b)) (ints 0 column refl is) has)

@@ -12,7 +12,8 @@ use Rattle.sv_effect.specs.StampedTables.{Stamped, StampedRow}
 use Rattle.sv_effect.specs.RowChange.{made, each, turned, turn_of, marked, changed}
 use Rattle.sv_effect.specs.Applied.{Change}
 use Rattle.sv_effect.specs.Fits.{AllAbove, Ascending, columns_written}
-use Rattle.sv_effect.specs.Threatened.{is_plain, is_plain_column}
+use Rattle.sv_app.specs.Kinds.{is_unmerged}
+use Rattle.sv_effect.specs.Threatened.{is_plain_column}
 use Rattle.sv_effect.specs.TablesOfCut.{Family, to_column, writes_to, set_by, sets_of, turn_by, turns_of, all_to, greatest, last, started, cell_by, cells_by, mark_by, row_by}
 use Rattle.sv_effect.proofs.Members.{In, Comes, comes, Source, source, in_all, Grown}
 use Rattle.sv_effect.proofs.GreatestLaws.{Alone}
@@ -219,9 +220,9 @@ cells_more number (column ∷ columns) (v ∷ vs) f g o more grown small orderly
     at : (number + 0) ≡ number
     at = omega arith
 
-    plain : (o ≡ 0) ⊎ WritesNoPlain number (column ∷ columns) more → column.merge ≡ merges.Plain → (o ≡ 0) ⊎ (sets_of (writes_to number more) ≡ [])
+    plain : (o ≡ 0) ⊎ WritesNoPlain number (column ∷ columns) more → is_unmerged column.merge ≡ true → (o ≡ 0) ⊎ (sets_of (writes_to number more) ≡ [])
     plain (inl e) is = inl e
-    plain (inr none) is = inr (ap sets_of (ap (λ n. writes_to n more) (sym at) ∙ none 0 (ap is_plain is)))
+    plain (inr none) is = inr (ap sets_of (ap (λ n. writes_to n more) (sym at) ∙ none 0 is))
 
     here : cell_by column.merge v (λ p. writes_to number (g p)) ≡ all_made (writes_to number more) (cell_by column.merge v (λ p. writes_to number (f p)))
     here = cell_more column.merge v (λ p. writes_to number (f p)) (λ p. writes_to number (g p)) o (writes_to number more) (grown_writes number f g o more grown) small

@@ -19,6 +19,7 @@ use Rattle.sv_app.specs.declared.schemas.Merge.TheVariants as merges
 use Rattle.sv_app.specs.declared.schemas.Ty.{Ty}
 use Rattle.sv_app.specs.declared.schemas.Ty.TheVariants as types
 use Rattle.sv_app.specs.Accepted.{AcceptedSchema}
+use Rattle.sv_app.specs.Kinds.{is_unmerged}
 use Rattle.sv_app.specs.Schema.{Declaration}
 use Rattle.sv_app.specs.Tables.{place_cmp}
 use Rattle.sv_app.proofs.AcceptedLaws.{no_lists, counter_is_int}
@@ -66,8 +67,8 @@ pub seen_at-bare : (t : StampedTables) (place : Place) → seen_at (bare t) plac
 seen_at-bare t place = ap seen_in (get-bare t place)
 
 -- the values of cells that fit their columns are of the columns' types
-val_fits : (column : Column) (v : Val) (merge : Merge) → column.merge ≡ merge → merge ≢ merges.NumDelta → HasType column.ty v → IsWordVal v → GotFits column (got_of v)
-val_fits column (Int n) merge is apart has word = (int_type column.ty has, number merge is)
+val_fits : (column : Column) (v : Val) → column.merge ≢ merges.NumDelta → HasType column.ty v → IsWordVal v → GotFits column (got_of v)
+val_fits column (Int n) apart has word = (int_type column.ty has, number column.merge refl)
   where
     int_type : (ty : Ty) → HasType ty (Int n) → ty ≡ types.Int
     int_type types.Int h = refl
@@ -75,10 +76,11 @@ val_fits column (Int n) merge is apart has word = (int_type column.ty has, numbe
     int_type types.Ints h = absurd h
 
     number : (m : Merge) → column.merge ≡ m → NumberFits column.merge n
-    number merges.NumDelta e = absurd (apart (sym is ∙ e))
+    number merges.NumDelta e = absurd (apart e)
     number merges.Lww e = subst (λ x. NumberFits x n) (sym e) word
     number merges.Plain e = subst (λ x. NumberFits x n) (sym e) word
-val_fits column (Text text) merge is apart has word = text_type column.ty has
+    number merges.Fresh e = subst (λ x. NumberFits x n) (sym e) word
+val_fits column (Text text) apart has word = text_type column.ty has
   where
     text_type : (ty : Ty) → HasType ty (Text text) → ty ≡ types.Text
     text_type types.Int h = absurd h
@@ -92,8 +94,8 @@ first_count (Plain v) cells fits = (tt, fits)
 
 value_fits : (column : Column) (cell : Cell) → (column.merge ≡ merges.NumDelta → column.ty ≡ types.Int) → CellFits column cell → CountsFit (cell ∷ []) → HasWord cell → GotFits column (value_of cell)
 value_fits column (Count n) int fits narrow word = (int fits, subst (λ m. NumberFits m n) (sym fits) narrow.0)
-value_fits column (Last v s) int fits narrow word = val_fits column v merges.Lww fits.0 (λ e. cc) fits.1 word
-value_fits column (Plain v) int fits narrow word = val_fits column v merges.Plain fits.0 (λ e. cc) fits.1 word
+value_fits column (Last v s) int fits narrow word = val_fits column v (λ e. let clash : merges.NumDelta ≡ merges.Lww = sym e ∙ fits.0 in absurd cc) fits.1 word
+value_fits column (Plain v) int fits narrow word = val_fits column v (λ e. let clash : is_unmerged merges.NumDelta ≡ true = ap is_unmerged (sym e) ∙ fits.0 in absurd cc) fits.1 word
 
 values_fit : (columns : List Column) (cells : List Cell) → ((place : ℕ) (column : Column) → slice_get columns place ≡ Some column → column.merge ≡ merges.NumDelta → column.ty ≡ types.Int)
     → CellsFit columns cells → CountsFit cells → HaveWords cells → GotsFit columns (map value_of cells)

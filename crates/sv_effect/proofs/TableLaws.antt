@@ -95,6 +95,7 @@ sum_to-bare f (suc n) bare =
 
 cell-bare : (merge : Merge) (v : Val) (ws : Family (Stamped Write)) → Bare ws 9 → cell_by merge v ws ≡ cell_from merge v
 cell-bare merges.Plain v ws bare = ap (λ l. plain_cell (last (started v) (sets_of l))) (bare 0 (omega arith))
+cell-bare merges.Fresh v ws bare = ap (λ l. plain_cell (last (started v) (sets_of l))) (bare 0 (omega arith))
 cell-bare merges.Lww v ws bare = ap (λ l. last_cell (greatest (started v) l)) (all_to-bare (λ o. sets_of (ws o)) 9 (λ o lt. ap sets_of (bare o lt)))
 cell-bare merges.NumDelta v ws bare = ap (λ k. Count k) (omega (arith, ints, none)) ∙ start v
   where

@@ -3,13 +3,12 @@
 use Rattle.std.specs.Prelude.{◌≡◌, ◌≢◌, ℕ, ℤ, pos, neg_ℤ, ◌^◌, ◌≤ℤ◌, ◌<◌, ◌≤◌, ◌==◌, ◌||◌, Bool, true, false, List, [], ◌∷◌, length, map, Some, slice_get}
 use Rattle.sv_value.specs.declared.values.Val.{Val}
 use Rattle.sv_app.specs.declared.acts.Act.{Act}
-use Rattle.sv_app.specs.declared.acts.Act.TheVariants.{Insert, Update, Remove}
+use Rattle.sv_app.specs.declared.acts.Act.TheVariants.{Insert, Fresh, Update, Remove}
 use Rattle.sv_app.specs.declared.apps.Ident.{Ident}
 use Rattle.sv_app.specs.declared.schemas.Column.{Column}
 use Rattle.sv_app.specs.declared.schemas.Merge.TheVariants.{NumDelta, Lww}
-use Rattle.sv_app.specs.declared.schemas.Merge.TheVariants as merges
 pub use Rattle.sv_app.specs.Fitting.{HasType}
-use Rattle.sv_app.specs.Kinds.{allows}
+use Rattle.sv_app.specs.Kinds.{allows, is_unmerged}
 use Rattle.sv_app.specs.Schema.{Declaration}
 pub use Rattle.sv_app.specs.Symbols.{is_key_column}
 use Rattle.sv_effect.specs.declared.cells.Cell.{Cell}
@@ -62,9 +61,10 @@ is_written number (w ∷ ws) = w.0 == number || is_written number ws
 abbrev pub WritesAll : Declaration → List (ℕ × Write) → Type 0
 WritesAll table ws = (number : ℕ) → number < length table.columns → is_key_column table.key number ≡ false → is_written number ws ≡ true
 
--- a remove writes no column, an insert each one outside the key
+-- a remove writes no column, an insert each one outside the key, and so where the key is drawn
 abbrev pub ActFits : Declaration → Act → List (ℕ × Write) → Type 0
 ActFits table Insert ws = WritesAll table ws
+ActFits table Fresh ws = WritesAll table ws
 ActFits table Update ws = Unit {0}
 ActFits table Remove ws = ws ≡ []
 
@@ -92,7 +92,7 @@ FitsSchema schema e = EffectFits schema (effect_of e)
 abbrev pub CellFits : Column → Cell → Type 0
 CellFits column (Count n) = column.merge ≡ NumDelta
 CellFits column (Last v s) = (column.merge ≡ Lww) × HasType column.ty v
-CellFits column (Plain v) = (column.merge ≡ merges.Plain) × HasType column.ty v
+CellFits column (Plain v) = (is_unmerged column.merge ≡ true) × HasType column.ty v
 
 -- a row has a cell for each column
 abbrev pub CellsFit : List Column → List Cell → Type 0

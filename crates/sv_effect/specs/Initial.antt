@@ -1,8 +1,12 @@
--- Initial rows fit the schema: the table of each is declared, its values are of the columns' types, its key is the one that they show, and no two stand at one place.
-use Rattle.std.specs.Prelude.{◌≡◌, List, [], ◌∷◌, All, Some, slice_get}
+-- Initial rows fit the schema: the table of each is declared, its values are of the columns' types, its key is the one that they show and isn't left to
+-- be drawn, and no two stand at one place.
+use Rattle.std.specs.Prelude.{◌≡◌, ◌<ℤ◌, true, List, [], ◌∷◌, All, Some, slice_get}
 use Rattle.sv_value.specs.declared.values.Val.{Val}
 use Rattle.sv_app.specs.declared.requests.InitRow.{InitRow}
 use Rattle.sv_app.specs.declared.schemas.Column.{Column}
+use Rattle.sv_app.specs.Draws.{first_of_all}
+use Rattle.sv_app.specs.Fitting.{number_in}
+use Rattle.sv_app.specs.Kinds.{is_fresh}
 use Rattle.sv_app.specs.Schema.{Declaration}
 use Rattle.sv_effect.specs.RowChange.{key_values}
 use Rattle.sv_effect.specs.Fits.{HasType, KeyFits}
@@ -21,6 +25,7 @@ pub record InitFits (schema : List Declaration) (row : InitRow) : Type 0 where
   pub key : KeyFits table.columns table.key (key_values row.key)
   pub values : ValuesFit table.columns row.values
   pub keyed : row.key ≡ key_in table.key row.values
+  pub unreserved : is_fresh table ≡ true → number_in row.key.first <ℤ first_of_all
 
 abbrev pub AreDistinct : List InitRow → Type 0
 AreDistinct [] = Unit {0}

@@ -9,6 +9,7 @@ pub mod Effects
 pub mod Faces
 pub mod Fits
 pub mod Follows
+pub mod Has
 pub mod Initial
 pub mod Keys
 pub mod Laws
@@ -22,6 +23,7 @@ pub mod RowsFit
 pub mod Run
 pub mod RunChanges
 pub mod RunValues
+pub mod Safe
 pub mod Sequences
 pub mod StampedTables
 pub mod Suits

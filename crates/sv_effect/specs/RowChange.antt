@@ -7,15 +7,14 @@ use Rattle.sv_value.specs.declared.values.Key.{Key}
 use Rattle.sv_value.specs.declared.stamps.Stamp.{Stamp}
 use Rattle.sv_value.specs.Orders.{stamp_cmp}
 use Rattle.sv_app.specs.declared.acts.Act.{Act}
-use Rattle.sv_app.specs.declared.acts.Act.TheVariants.{Insert, Update, Remove}
+use Rattle.sv_app.specs.declared.acts.Act.TheVariants.{Insert, Fresh, Update, Remove}
 use Rattle.sv_app.specs.declared.apps.Ident.{Ident}
 use Rattle.sv_app.specs.declared.schemas.Column.{Column}
-use Rattle.sv_app.specs.declared.schemas.Kind.{Kind}
-use Rattle.sv_app.specs.declared.schemas.Kind.TheVariants as kinds
 use Rattle.sv_app.specs.declared.schemas.Merge.{Merge}
 use Rattle.sv_app.specs.declared.schemas.Merge.TheVariants as merges
 use Rattle.sv_app.specs.declared.schemas.Ty.{Ty}
 use Rattle.sv_app.specs.declared.schemas.Ty.TheVariants as types
+pub use Rattle.sv_app.specs.Kinds.{is_annotated}
 use Rattle.sv_app.specs.Schema.{Declaration}
 use Rattle.sv_effect.specs.declared.cells.Cell.{Cell}
 use Rattle.sv_effect.specs.declared.cells.Cell.TheVariants.{Count, Last, Plain}
@@ -56,6 +55,7 @@ turned false old new = new
 -- a row is present after an insert and isn't after a remove
 abbrev pub turn_of : Act → Option Bool
 turn_of Insert = Some true
+turn_of Fresh = Some true
 turn_of Update = None
 turn_of Remove = Some false
 
@@ -70,16 +70,10 @@ changed annotated s e row = record {
   mark = marked annotated s (turn_of e.act) row.mark;
 }
 
-abbrev pub is_annotated : Kind → Bool
-is_annotated kinds.Plain = false
-is_annotated kinds.Aoset = true
-is_annotated kinds.Uoset = true
-is_annotated kinds.Auset = true
-is_annotated kinds.Arset = true
-
 -- the cell of a column that has a value from the start
 abbrev pub cell_from : Merge → Val → Cell
 cell_from merges.Plain v = Plain v
+cell_from merges.Fresh v = Plain v
 cell_from merges.Lww v = Last v zero_stamp
 cell_from merges.NumDelta (Int n) = Count n
 cell_from merges.NumDelta (IsText _) = Count (pos 0)

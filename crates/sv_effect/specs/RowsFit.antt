@@ -12,7 +12,7 @@ use Rattle.sv_app.specs.declared.gots.Got.TheVariants.{Num, Text as IsText}
 use Rattle.sv_app.specs.declared.places.Place.{Place}
 use Rattle.sv_app.specs.declared.schemas.Column.{Column}
 use Rattle.sv_app.specs.declared.schemas.Merge.{Merge}
-use Rattle.sv_app.specs.declared.schemas.Merge.TheVariants.{Plain, Lww, NumDelta}
+use Rattle.sv_app.specs.declared.schemas.Merge.TheVariants.{Plain, Lww, NumDelta, Fresh}
 use Rattle.sv_app.specs.declared.schemas.Ty.TheVariants as types
 use Rattle.sv_app.specs.Accepted.{AcceptedSchema}
 use Rattle.sv_app.specs.Schema.{Declaration}
@@ -33,6 +33,7 @@ abbrev pub NumberFits : Merge → ℤ → Type 0
 NumberFits NumDelta n = IsNarrow n
 NumberFits Lww n = IsWord n
 NumberFits Plain n = IsWord n
+NumberFits Fresh n = IsWord n
 
 -- a value of the column's type
 abbrev pub GotFits : Column → Got → Type 0

@@ -1,5 +1,5 @@
 -- The meaning of a run: what a transaction does to whole tables, statement by statement, each write made at once.
-use Rattle.std.specs.Prelude.{ℕ, suc, nat_lt, ◌==◌, ◌&&◌, if◌then◌else◌, Bool, true, false, List, [], ◌∷◌, ◌++◌, length, map, Option, Some, None, slice_get}
+use Rattle.std.specs.Prelude.{ℕ, ℤ, suc, nat_lt, ◌==◌, ◌&&◌, if◌then◌else◌, Bool, true, false, List, [], ◌∷◌, ◌++◌, length, map, Option, Some, None, slice_get}
 use Rattle.std.specs.FinMap.{get, insert, entries}
 use Rattle.sv_value.specs.declared.values.Key.{Key}
 use Rattle.sv_value.specs.declared.values.Val.{Val}
@@ -17,20 +17,21 @@ use Rattle.sv_app.specs.Schema.{Declaration}
 use Rattle.sv_app.specs.Slots.{with_item}
 use Rattle.sv_app.specs.Symbols.{block_assigns, known_after}
 use Rattle.sv_app.specs.Tables.{Row, Tables}
-use Rattle.sv_app.specs.Trees.{Term, Test, Command, Declare, Assign, Fetch, Choose, ForRows, ForEach, Insert, Update, Remove, Abort, Reply, Block, Finish, Then, Transaction}
+use Rattle.sv_app.specs.Trees.{Term, Test, Command, Declare, Assign, Fetch, Choose, ForRows, ForEach, Insert, Fresh, Update, Remove, Abort, Reply, Block, Finish, Then, Transaction}
 use Rattle.sv_app.specs.Units.{loop_variables, unit_of}
 use Rattle.sv_effect.specs.declared.ops.Need.{Need}
 use Rattle.sv_effect.specs.declared.outcomes.Outcome.{Outcome}
 use Rattle.sv_effect.specs.declared.outcomes.Outcome.TheVariants as outcomes
 use Rattle.sv_effect.specs.declared.outcomes.Ran.{Ran}
 use Rattle.sv_effect.specs.Needs.{needs_of}
-use Rattle.sv_effect.specs.RunChanges.{Effect, effect_of, key_of, key_in, with_writes, sets_made, in_order, inserts, kept_values, stands}
-use Rattle.sv_effect.specs.RunValues.{nothing, Progress, Scope, with_progress, forgetting, Evaluated, Leaves, Gives, then_value, value_of, values_of, truth_of}
+use Rattle.sv_effect.specs.RunChanges.{Effect, effect_of, key_of, key_in, with_writes, sets_made, in_order, inserts, kept_values, stands, drawn_writes, drawn_key}
+use Rattle.sv_effect.specs.RunValues.{nothing, Progress, Scope, with_progress, forgetting, put, Evaluated, Leaves, Gives, then_value, value_of, values_of, truth_of}
 
--- what a run is made of: the schema, the arguments, and the variables of its loops in the order of the text
+-- what a run is made of: the schema, the arguments, the first key that it draws, and the variables of its loops in the order of the text
 pub record Setting : Type 0 where
   pub schema : List Declaration
   pub arguments : List Arg
+  pub first : ℤ
   pub loops : List ℕ
 
 -- where a run stands
@@ -117,6 +118,16 @@ abbrev pub inserted : Declaration → Place → List Val → Option Row → Stan
 inserted table p vs row st = if stands row then Ends outcomes.Exists else
     on_value (inserts table vs (kept_values table p.key row) 0 table.columns st.scope) st (λ writes z.
     changed (record { place = p; act = acts.Insert; writes = writes; instance = z.scope.progress.number }) (row_with (with_writes writes (kept_values table p.key row)) true) z)
+
+-- a row under a drawn key is present, and the variable gets the key, which is a symbol brought in last
+abbrev pub with_symbol : Val → Stand → Stand
+with_symbol v st = with_scope st (with_progress st.scope (put v st.scope.progress))
+
+abbrev pub drawn : ℕ → Declaration → Place → List Val → Option Row → Stand → Flow
+drawn x table p vs (Some row) st = Ends outcomes.Exists
+drawn x table p vs None st = let writes = drawn_writes table vs in
+    changed (record { place = p; act = acts.Fresh; writes = writes; instance = st.scope.progress.number })
+    (row_with (with_writes writes (kept_values table p.key None)) true) (assigned x p.key.first (with_symbol p.key.first st))
 
 abbrev pub removed : Place → Stand → Row → Flow
 removed p st row = changed (record { place = p; act = acts.Remove; writes = []; instance = st.scope.progress.number }) (row_with row.values false) st
@@ -210,6 +221,8 @@ abbrev mutual
   run_command g (ForEach x list body) st = then_do (turns (items_of (slice_get g.arguments list.num)) (item_turn (unit_of g.loops x.num) x.num (run_block g body)) st) (left_loop body)
   run_command g (Insert table values) st = on_value (values_of values st.scope) st (λ vs z. on_table (slice_get g.schema table.num) (λ t.
       let p : Place = record { table = table.num; key = key_in t.key vs } in inserted t p vs (get z.tables p) z))
+  run_command g (Fresh x table values) st = on_value (values_of values st.scope) st (λ vs z. on_table (slice_get g.schema table.num) (λ t.
+      let p : Place = record { table = table.num; key = drawn_key g.first z.effects } in drawn x.num t p vs (get z.tables p) z))
   run_command g (Update table key sets) st = on_value (values_of key st.scope) st (λ vs z. on_table (slice_get g.schema table.num) (λ t.
       on_present (get z.tables (place_of_row table vs)) (updated t (place_of_row table vs) sets z)))
   run_command g (Remove table key) st = on_value (values_of key st.scope) st (λ vs z. on_present (get z.tables (place_of_row table vs)) (removed (place_of_row table vs) z))
@@ -253,19 +266,20 @@ started arguments t = record {
   instances = [];
 }
 
-abbrev pub flow_of_body : List Declaration → Block → List Arg → Tables → Flow
-flow_of_body schema body arguments t = run_block (record { schema = schema; arguments = arguments; loops = loop_variables body }) body (started arguments t)
+abbrev pub flow_of_body : List Declaration → Block → List Arg → ℤ → Tables → Flow
+flow_of_body schema body arguments first t = run_block (record { schema = schema; arguments = arguments; first = first; loops = loop_variables body }) body (started arguments t)
 
-abbrev pub run_body : List Declaration → Block → List Arg → Tables → RunResult
-run_body schema body arguments t = result_of schema (flow_of_body schema body arguments t)
+abbrev pub run_body : List Declaration → Block → List Arg → ℤ → Tables → RunResult
+run_body schema body arguments first t = result_of schema (flow_of_body schema body arguments first t)
 
-abbrev pub run : List Declaration → List Transaction → Request → Tables → RunResult
-run schema txns request t = run_body schema (body_of (slice_get txns request.txn)) request.args t
+-- the run of a request with this first key
+abbrev pub run : List Declaration → List Transaction → Request → ℤ → Tables → RunResult
+run schema txns request first t = run_body schema (body_of (slice_get txns request.txn)) request.args first t
 
 -- the tables that a run leaves; one that isn't done leaves those that it began on
 abbrev pub left_of : Tables → Flow → Tables
 left_of t (Goes st) = st.tables
 left_of t (Ends o) = t
 
-abbrev pub tables_left : List Declaration → List Transaction → Request → Tables → Tables
-tables_left schema txns request t = left_of t (flow_of_body schema (body_of (slice_get txns request.txn)) request.args t)
+abbrev pub tables_left : List Declaration → List Transaction → Request → ℤ → Tables → Tables
+tables_left schema txns request first t = left_of t (flow_of_body schema (body_of (slice_get txns request.txn)) request.args first t)

@@ -1,7 +1,8 @@
 -- What one statement of a run changes: the writes of an update and of an insert, and the row after them.
-use Rattle.std.specs.Prelude.{ℕ, suc, ℤ, pos, ◌+ℤ◌, ◌-ℤ◌, if◌then◌else◌, Bool, true, false, List, [], ◌∷◌, Option, Some, None, map, slice_get}
+use Rattle.std.specs.Prelude.{ℕ, suc, ℤ, pos, ◌+◌, ◌+ℤ◌, ◌-ℤ◌, if◌then◌else◌, Bool, true, false, List, [], ◌∷◌, Option, Some, None, map, slice_get}
 use Rattle.sv_value.specs.declared.values.Key.{Key}
 use Rattle.sv_value.specs.declared.values.Val.{Val}
+use Rattle.sv_value.specs.declared.values.Val.TheVariants.{Int}
 use Rattle.sv_app.specs.declared.acts.Act.{Act}
 use Rattle.sv_app.specs.declared.apps.Ident.{Ident}
 use Rattle.sv_app.specs.declared.gots.Got.{Got}
@@ -21,6 +22,7 @@ use Rattle.sv_app.specs.Trees.{Term}
 use Rattle.sv_effect.specs.declared.ops.Write.{Write}
 use Rattle.sv_effect.specs.declared.ops.Write.TheVariants.{Delta, Set}
 use Rattle.sv_effect.specs.declared.ops.RowEffect.{RowEffect}
+use Rattle.sv_effect.specs.Acts.{is_draw}
 use Rattle.sv_effect.specs.Applied.{place_of}
 use Rattle.sv_app.specs.Kinds.{is_grow_only}
 use Rattle.sv_effect.specs.BareTables.{got_of}
@@ -76,6 +78,7 @@ abbrev pub set_of : Merge → ℕ → Val → Scope → Evaluated Write
 set_of merges.NumDelta c v s = then_value (read_old c s) (delta_to v)
 set_of merges.Plain c v s = Gives (Set v) s
 set_of merges.Lww c v s = Gives (Set v) s
+set_of merges.Fresh c v s = Gives (Set v) s
 
 abbrev pub merge_of : List Column → ℕ → Merge
 merge_of columns c = merge_in (slice_get columns c)
@@ -96,6 +99,7 @@ insert_of true merges.NumDelta v kept s = Gives (Delta (number_in v)) s
 insert_of false merges.NumDelta v kept s = kept_to v (val_of kept) s
 insert_of grows merges.Plain v kept s = Gives (Set v) s
 insert_of grows merges.Lww v kept s = Gives (Set v) s
+insert_of grows merges.Fresh v kept s = Gives (Set v) s
 
 -- the writes of an insert, to each column outside the key
 abbrev pub inserts : Declaration → List Val → List Got → ℕ → List Column → Scope → Evaluated (List (ℕ × Write))
@@ -103,6 +107,35 @@ inserts table vs kept c [] s = Gives [] s
 inserts table vs kept c (column' ∷ columns) s = if is_key_column table.key c then inserts table vs kept (suc c) columns s
     else then_value (insert_of (is_grow_only table.kind) column'.merge (item nothing vs c) (column kept c) s)
     (λ w u. then_value (inserts table vs kept (suc c) columns u) (λ ws z. Gives ((c, w) ∷ ws) z))
+
+-- what a value writes into a row that wasn't there
+abbrev pub first_write : Merge → Val → Write
+first_write merges.NumDelta v = Delta (number_in v)
+first_write merges.Plain v = Set v
+first_write merges.Lww v = Set v
+first_write merges.Fresh v = Set v
+
+-- the columns but the key, with their numbers
+abbrev pub outside_key : Declaration → ℕ → List Column → List (ℕ × Column)
+outside_key table c [] = []
+outside_key table c (column' ∷ columns) = if is_key_column table.key c then outside_key table (suc c) columns else (c, column') ∷ outside_key table (suc c) columns
+
+-- the writes of a row whose key is drawn: a value for each of these columns
+abbrev pub writes_of_columns : List (ℕ × Column) → List Val → List (ℕ × Write)
+writes_of_columns (c ∷ cs) (v ∷ vs) = (c.0, first_write c.1.merge v) ∷ writes_of_columns cs vs
+writes_of_columns _ _ = []
+
+abbrev pub drawn_writes : Declaration → List Val → List (ℕ × Write)
+drawn_writes table vs = writes_of_columns (outside_key table 0 table.columns) vs
+
+-- how many keys the changes drew
+abbrev pub draws : List Effect → ℕ
+draws [] = 0
+draws (e ∷ es) = (if is_draw e.act then 1 else 0) + draws es
+
+-- the next key that is drawn: keys are numbered from the first, over the whole run
+abbrev pub drawn_key : ℤ → List Effect → Key
+drawn_key first es = record { first = Int (first +ℤ pos (draws es)); second = None }
 
 -- the values that an insert finds: those of the kept row, else zeros with the key
 abbrev pub kept_values : Declaration → Key → Option Row → List Got

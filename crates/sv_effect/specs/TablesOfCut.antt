@@ -105,6 +105,7 @@ abbrev pub cell_by : Merge → Val → Family (Stamped Write) → Cell
 cell_by merges.NumDelta v ws = Count (number_in v +ℤ sum_to (λ o. sum_of (ws o)) 9)
 cell_by merges.Lww v ws = last_cell (greatest (started v) (all_to (λ o. sets_of (ws o)) 9))
 cell_by merges.Plain v ws = plain_cell (last (started v) (sets_of (ws 0)))
+cell_by merges.Fresh v ws = plain_cell (last (started v) (sets_of (ws 0)))
 
 abbrev pub cells_by : ℕ → List Column → List Val → Family Change → List Cell
 cells_by number (column ∷ columns) (v ∷ vs) cs = cell_by column.merge v (λ o. writes_to number (cs o)) ∷ cells_by (suc number) columns vs cs

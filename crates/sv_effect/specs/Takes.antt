@@ -1,8 +1,8 @@
--- What a store asks of an operation: rows that are updated or removed are there, counts stay in their bounds, and there is room for the inserts.
+-- What a store asks of an operation: rows that are updated or removed are there, those whose keys are drawn aren't, counts stay in their bounds, and there is room for the inserts.
 use Rattle.std.specs.Prelude.{ℕ, ◌+◌, List, [], ◌∷◌, unwrap_or}
 use Rattle.std.specs.FinMap.{get}
 use Rattle.sv_app.specs.declared.acts.Act.{Act}
-use Rattle.sv_app.specs.declared.acts.Act.TheVariants.{Insert, Update, Remove}
+use Rattle.sv_app.specs.declared.acts.Act.TheVariants.{Insert, Fresh, Update, Remove}
 use Rattle.sv_app.specs.Schema.{Declaration}
 use Rattle.sv_effect.specs.declared.ops.RowEffect.{RowEffect}
 use Rattle.sv_effect.specs.StampedTables.{StampedRow, StampedTables}
@@ -27,6 +27,7 @@ FindsRows schema (c ∷ cs) t = IsFound c.value.act (get t (place_of c.value)) �
 -- how many of the changes insert
 abbrev pub as_insert : Act → ℕ
 as_insert Insert = 1
+as_insert Fresh = 1
 as_insert Update = 0
 as_insert Remove = 0
 

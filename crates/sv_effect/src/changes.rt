@@ -94,7 +94,7 @@ pub fn apply_row(row: &mut Row, table: &Table, change: &RowEffect, stamp: Stamp)
     let annotated = is_annotated(table.kind);
     write_all(&mut row.cells, change.writes.as_slice(), stamp);
     match change.act {
-        Act::Insert => turn_mark(row, annotated, true, stamp),
+        Act::Insert | Act::Fresh => turn_mark(row, annotated, true, stamp),
         Act::Update => {}
         Act::Remove => turn_mark(row, annotated, false, stamp),
     }

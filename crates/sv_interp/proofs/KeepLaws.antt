@@ -6,7 +6,7 @@ use Rattle.sv_value.specs.declared.values.Key.{Key}
 use Rattle.sv_value.specs.declared.values.Val.{Val}
 use Rattle.sv_value.specs.declared.values.Val.TheVariants.{Int}
 use Rattle.sv_app.specs.declared.apps.Ident.{Ident}
-use Rattle.sv_app.specs.declared.names.Meaning.TheVariants.{Row as RowOf, Element}
+use Rattle.sv_app.specs.declared.names.Meaning.TheVariants.{Row as RowOf, Constant}
 use Rattle.sv_app.specs.declared.places.Place.{Place}
 use Rattle.sv_app.specs.declared.requests.Arg.{Arg}
 use Rattle.sv_app.specs.declared.requests.Arg.TheVariants as args
@@ -128,11 +128,11 @@ keeps_item is_of g unit variable v body outer s x u w end out begins binds more 
   keeps = λ f at frame setting own inside holds none.
       let starts : calm u ≡ with_scope (begun unit (calm s)) (with_value inside.name.num v (begun unit (calm s)).scope) =
       binds ∙ ap (λ q. with_scope q (with_value variable v q.scope)) (begins empty) ∙ ap (λ n. with_scope (begun unit (calm s)) (with_value n v (begun unit (calm s)).scope)) inside.same_variable in
-      let here = subst (Holds f (knowing at inside.name Element)) (sym starts) (item_begins f at inside.name inside.list body unit v (calm s) inside.command holds inside.integers.0) in
-      let done = more.keeps f (knowing at inside.name Element) frame setting own (items_in f at inside.name inside.list body inside.command) here none in
+      let here = subst (Holds f (knowing at inside.name Constant)) (sym starts) (item_begins f at inside.name inside.list body unit v (calm s) inside.command holds inside.integers.0) in
+      let done = more.keeps f (knowing at inside.name Constant) frame setting own (items_in f at inside.name inside.list body inside.command) here none in
       let unit_is : unit ≡ unit_of (loop_variables f.txn.body) inside.name.num = inside.same_unit ∙ ap (unit_of (loop_variables f.txn.body)) inside.same_variable in
       subst (Turned f at (calm s)) (sym (done.closes ∙ ap (λ o. closed o done.mid) out))
-      (item_turn_closes f at inside.name inside.list body unit v (calm s) done.mid inside.command unit_is (subst (λ st. Passes f (knowing at inside.name Element) body st done.mid) starts done.passes));
+      (item_turn_closes f at inside.name inside.list body unit v (calm s) done.mid inside.command unit_is (subst (λ st. Passes f (knowing at inside.name Constant) body st done.mid) starts done.passes));
 }
 
 pub keeps_row : (is_of later : List Declaration → Type 0) (g : Setting) (unit r table : ℕ) (k : Key) (body : Block) (outer : Progress) (s x u w : State) (own : List (Place × LeftRow)) (found : Option LeftRow) (row : LeftRow) (end : Option Outcome)

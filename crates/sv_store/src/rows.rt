@@ -35,7 +35,7 @@ fn cell_from(merge: Merge, val: Val) -> Cell
     ensures count { CountsFit (result ∷ []) }
 {
     match (merge, val) {
-        (Merge::Plain, val) => Cell::Plain(val),
+        (Merge::Plain | Merge::Fresh, val) => Cell::Plain(val),
         (Merge::Lww, val) => Cell::Last {
             val,
             stamp: zero_stamp(),

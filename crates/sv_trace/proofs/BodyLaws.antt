@@ -10,7 +10,7 @@ use Rattle.sv_app.specs.declared.acts.Act.TheVariants as acts
 use Rattle.sv_app.specs.declared.apps.Ident.{Ident}
 use Rattle.sv_app.specs.declared.names.Known.{Known}
 use Rattle.sv_app.specs.declared.names.Meaning.{Meaning}
-use Rattle.sv_app.specs.declared.names.Meaning.TheVariants.{Parameter, Variable as Local, Row as RowOf, Element}
+use Rattle.sv_app.specs.declared.names.Meaning.TheVariants.{Parameter, Variable as Local, Row as RowOf, Constant}
 use Rattle.sv_app.specs.declared.refusals.Code.TheVariants.{Unknown, Kind, Typing}
 use Rattle.sv_app.specs.declared.refusals.Refusal.{Refusal}
 use Rattle.sv_app.specs.declared.schemas.Column.{Column}
@@ -228,7 +228,7 @@ module _ (f : Frame) (accepted : AcceptedSchema f.schema) (once : repeats (txn_n
           let here = found f k known x (Local ty) is own named in
           (not_apart ty (terms.type_of (at known) e) (item types.Int last_names.types x.num) (type_of f.schema last_names 0 e) (spot_of e) here.meaning typed right, here.as_value tt)
       by_meaning (Some (RowOf t)) named right = absurd (bad_fault f x.spot Typing right)
-      by_meaning (Some Element) named right = absurd (bad_fault f x.spot Typing right)
+      by_meaning (Some Constant) named right = absurd (bad_fault f x.spot Typing right)
 
   -- each loop is a unit
   abbrev pub LoopIs : Loop → Type 0
@@ -289,8 +289,8 @@ module _ (f : Frame) (accepted : AcceptedSchema f.schema) (once : repeats (txn_n
         let start : Agree (suc k) mid last_names = agree_then (suc k) mid (block_names f.schema body mid) last_names (block_stays f once body mid (suc k) body_own here.1)
         (agree_fewer (suc k) (after (suc k) (block_declares body)) (block_names f.schema body mid) last_names (not_before (suc k) (block_declares body)) final) in
         let typed : TypeIs f x types.Int = final_type k x.num types.Int n number start in
-        let item_known : KnownIs f (suc k) (record { name = x; meaning = Element }) = value_known k x Element same number typed in
-        (typed, loops.0, block_suits body (record { name = x; meaning = Element } ∷ known) mid (suc k) (item_known, known_more f k (suc k) known (omega arith) is) body_own here.1 inner start final loops.1)
+        let item_known : KnownIs f (suc k) (record { name = x; meaning = Constant }) = value_known k x Constant same number typed in
+        (typed, loops.0, block_suits body (record { name = x; meaning = Constant } ∷ known) mid (suc k) (item_known, known_more f k (suc k) known (omega arith) is) body_own here.1 inner start final loops.1)
     command_suits (Insert t es) known n k is own here right inner begin final loops =
         let table_own : numbered_table_name (all f) t ≡ t = cc in
         let values_own : numbered_terms (all f) es ≡ es = cc in

@@ -6,7 +6,7 @@ use Rattle.sv_value.specs.declared.values.Val.{Val}
 use Rattle.sv_value.specs.declared.values.Val.TheVariants as vals
 use Rattle.sv_app.specs.declared.apps.Ident.{Ident}
 use Rattle.sv_app.specs.declared.names.Meaning.{Meaning}
-use Rattle.sv_app.specs.declared.names.Meaning.TheVariants.{Row as RowOf, Element}
+use Rattle.sv_app.specs.declared.names.Meaning.TheVariants.{Row as RowOf, Constant}
 use Rattle.sv_app.specs.declared.places.Place.{Place}
 use Rattle.sv_app.specs.declared.schemas.Ty.TheVariants as types
 use Rattle.sv_app.specs.Fitting.{HasType}
@@ -71,7 +71,7 @@ makes_no f at test ys ns st z end command holds is passes = record {
 pub rows_in : (f : Frame) (at : Scope) (r t : Ident) (test : Option Test) (body : Block) → CommandIn f at (ForRows r t test body) → BlockIn f (knowing at r (RowOf t)) body
 rows_in f at r t test body command = record { frame = command.frame; outside = command.outside; suits = command.suits.2 }
 
-pub items_in : (f : Frame) (at : Scope) (x l : Ident) (body : Block) → CommandIn f at (ForEach x l body) → BlockIn f (knowing at x Element) body
+pub items_in : (f : Frame) (at : Scope) (x l : Ident) (body : Block) → CommandIn f at (ForEach x l body) → BlockIn f (knowing at x Constant) body
 items_in f at x l body command = record { frame = command.frame; outside = command.outside; suits = command.suits.2 }
 
 -- the begin of a turn, of which its variable isn't known
@@ -91,10 +91,10 @@ int_type (vals.Int n) fits = refl
 int_type (vals.Text text) fits = absurd fits
 
 pub item_begins : (f : Frame) (at : Scope) (x l : Ident) (body : Block) (u : ℕ) (v : Val) (st : Stand) → CommandIn f at (ForEach x l body) → Holds f at st → HasType types.Int v
-    → Holds f (knowing at x Element) (with_scope (begun u st) (with_value x.num v (begun u st).scope))
+    → Holds f (knowing at x Constant) (with_scope (begun u st) (with_value x.num v (begun u st).scope))
 item_begins f at x l body u v st command holds fits =
     let started = begun_holds f at u st holds in
-    holds_with f at (knowing at x Element) (begun u st) (with_value x.num v (begun u st).scope) started (sees_new_value f at x Element v (begun u st).scope (λ none. none) (int_type v fits ∙ sym command.suits.0) started.sees)
+    holds_with f at (knowing at x Constant) (begun u st) (with_value x.num v (begun u st).scope) started (sees_new_value f at x Constant v (begun u st).scope (λ none. none) (int_type v fits ∙ sym command.suits.0) started.sees)
 
 pub of_types : (tape : List Val) → AreOfTypes (map type_of_val tape) tape
 of_types [] = tt
@@ -137,9 +137,9 @@ row_turn_closes f at r t test body u row st end command unit passes =
     turn_closes f at r (RowOf t) body u (suc (length st.instances)) st (with_scope (begun u st) (with_row r.num row.values (begun u st).scope)) end (ap (slice_get (units f.txn.body)) unit ∙ command.suits.1) refl passes
 
 pub item_turn_closes : (f : Frame) (at : Scope) (x l : Ident) (body : Block) (u : ℕ) (v : Val) (st end : Stand) → CommandIn f at (ForEach x l body) → u ≡ unit_of (loop_variables f.txn.body) x.num
-    → Passes f (knowing at x Element) body (with_scope (begun u st) (with_value x.num v (begun u st).scope)) end → Turned f at st (closed st.scope.progress end)
+    → Passes f (knowing at x Constant) body (with_scope (begun u st) (with_value x.num v (begun u st).scope)) end → Turned f at st (closed st.scope.progress end)
 item_turn_closes f at x l body u v st end command unit passes =
-    turn_closes f at x Element body u (suc (length st.instances)) st (with_scope (begun u st) (with_value x.num v (begun u st).scope)) end (ap (slice_get (units f.txn.body)) unit ∙ command.suits.1) refl passes
+    turn_closes f at x Constant body u (suc (length st.instances)) st (with_scope (begun u st) (with_value x.num v (begun u st).scope)) end (ap (slice_get (units f.txn.body)) unit ∙ command.suits.1) refl passes
 
 pub turned_none : (f : Frame) (at : Scope) (st : Stand) → Holds f at st → Turned f at st st
 turned_none f at st holds = record { holds = holds; progress = refl }

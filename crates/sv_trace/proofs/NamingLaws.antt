@@ -8,7 +8,7 @@ use Rattle.sv_app.specs.declared.apps.Ident.{Ident}
 use Rattle.sv_app.specs.declared.names.Declared.{Declared}
 use Rattle.sv_app.specs.declared.names.Known.{Known}
 use Rattle.sv_app.specs.declared.names.Meaning.{Meaning}
-use Rattle.sv_app.specs.declared.names.Meaning.TheVariants.{Parameter, Variable as Local, Row as RowOf, Element}
+use Rattle.sv_app.specs.declared.names.Meaning.TheVariants.{Parameter, Variable as Local, Row as RowOf, Constant}
 use Rattle.sv_app.specs.declared.refusals.Code.{Code}
 use Rattle.sv_app.specs.declared.refusals.Code.TheVariants.{Unknown, Typing}
 use Rattle.sv_app.specs.declared.schemas.Column.{Column}
@@ -65,7 +65,7 @@ module _ (f : Frame) where
   MeaningIs (Parameter ty) x = item types.Int (names_in f).types x.num ≡ ty
   MeaningIs (Local ty) x = ty ≡ Some (item types.Int (names_in f).types x.num)
   MeaningIs (RowOf t) x = (item 0 (names_in f).tables x.num ≡ t.num) × IsTable f.schema t × (table_declared x ≡ Some t)
-  MeaningIs Element x = item types.Int (names_in f).types x.num ≡ types.Int
+  MeaningIs Constant x = item types.Int (names_in f).types x.num ≡ types.Int
 
   pub record KnownIs (k : ℕ) (known : Known) : Type 0 where
     pub own : numbered_name all known.name ≡ known.name
@@ -92,7 +92,7 @@ module _ (f : Frame) where
   meaning_same (Local ty) a b name num is = subst (λ n. ty ≡ Some (item types.Int (names_in f).types n)) num is
   meaning_same (RowOf t) a b name num is =
       (subst (λ n. item 0 (names_in f).tables n ≡ t.num) num is.0, is.1, ap (λ o. option_and_then (λ (d : Declared). d.table) o) (sym (found_same (declares f.txn) a b name)) ∙ is.2)
-  meaning_same Element a b name num is = subst (λ n. item types.Int (names_in f).types n ≡ types.Int) num is
+  meaning_same Constant a b name num is = subst (λ n. item types.Int (names_in f).types n ≡ types.Int) num is
 
   pub found : (k : ℕ) (known : List Known) (x : Ident) (m : Meaning) → AllKnown k known → numbered_name all x ≡ x → option_map (λ (y : Known). y.meaning) (find (λ (y : Known). is_named y.name x) known) ≡ Some m
       → Found k known x m
@@ -131,7 +131,7 @@ module _ (f : Frame) where
   value_means (Parameter types.Ints) x no_list is = absurd cc
   value_means (Local ty) x no_list is = (tt, is)
   value_means (RowOf t) x no_list is = absurd cc
-  value_means Element x no_list is = (tt, ap (λ t. Some t) (sym is))
+  value_means Constant x no_list is = (tt, ap (λ t. Some t) (sym is))
 
   -- a column of a table, by name and by number
   pub column_is : (t : Ident) (is : IsTable f.schema t) (c : Ident) → no_column_of f.schema t c ≡ [] → numbered_in (column_names is.table) c ≡ c → terms.column_type f.schema t c ≡ Some (column_type f.schema t.num c.num)
@@ -172,7 +172,7 @@ module _ (f : Frame) where
           type = ap (λ o. terms.field_type f.schema o c) e ∙ typed ∙ ap (λ n. Some (column_type f.schema n c.num)) (sym here.meaning.0);
           agrees = λ n agree. ap (λ m. column_type f.schema m c.num) (agree r.num here.below).1;
         }
-    field_is r c s (Some Element) e right own own_column = absurd (bad_fault r.spot Typing right)
+    field_is r c s (Some Constant) e right own own_column = absurd (bad_fault r.spot Typing right)
 
     old_is : (c : Ident) (s : Spot) → old_faults at u c s ≡ [] → numbered_in columns c ≡ c → TermIs k at table (Old c s)
     old_is c s right own = by_table u refl updated right

@@ -3,7 +3,7 @@ use Rattle.std.proofs.Common.{◌≡◌, ◌∙◌, inl, inr, ℕ, suc, ◌<◌,
 use Rattle.std.specs.List.{All}
 use Rattle.sv_app.specs.declared.names.Known.{Known}
 use Rattle.sv_app.specs.declared.names.Meaning.{Meaning}
-use Rattle.sv_app.specs.declared.names.Meaning.TheVariants.{Row as RowOf, Element}
+use Rattle.sv_app.specs.declared.names.Meaning.TheVariants.{Row as RowOf, Constant}
 use Rattle.sv_app.specs.declared.refusals.Refusal.{Refusal}
 use Rattle.sv_app.specs.Accepted.{AcceptedSchema}
 use Rattle.sv_app.specs.Scopes.{Scope, knowing, opening}
@@ -88,7 +88,7 @@ module _ (f : Frame) (accepted : AcceptedSchema f.schema) (named : repeats (txn_
         let number : x.num ≡ k = here_number f named k (plain_name x) here.0 same in (
           refl,
           number,
-          block_placed false body (record { name = x; meaning = Element } ∷ known) (suc k) (value_known f accepted named k x Element same number suits.0, known_more f k (suc k) known (omega arith) is) body_is here.1 inner suits.2
+          block_placed false body (record { name = x; meaning = Constant } ∷ known) (suc k) (value_known f accepted named k x Constant same number suits.0, known_more f k (suc k) known (omega arith) is) body_is here.1 inner suits.2
               (no_length (filter is_loop (block_statements body)) kept.0),
         )
     command_placed false (ForEach x l body) known k is own here right inner suits kept = absurd cc

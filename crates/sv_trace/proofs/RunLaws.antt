@@ -6,7 +6,7 @@ use Rattle.sv_value.specs.declared.values.Key.{Key}
 use Rattle.sv_value.specs.declared.values.Val.{Val}
 use Rattle.sv_value.specs.declared.values.Val.TheVariants as vals
 use Rattle.sv_app.specs.declared.apps.Ident.{Ident}
-use Rattle.sv_app.specs.declared.names.Meaning.TheVariants.{Row as RowOf, Element}
+use Rattle.sv_app.specs.declared.names.Meaning.TheVariants.{Row as RowOf, Constant}
 use Rattle.sv_app.specs.declared.places.Place.{Place}
 use Rattle.sv_app.specs.declared.requests.Arg.{Arg}
 use Rattle.sv_app.specs.declared.requests.Arg.TheVariants as args
@@ -103,7 +103,7 @@ module _ (f : Frame) where
               let passes = run begin went.mid (row_begins f at r t test body u k row st command holds (own_rows_fit f at st p (Some row) holds found)) went.first_is in
               subst (Turned f at st) (same_stand (closed st.scope.progress went.mid) end went.rest) (row_turn_closes f at r t test body u row st went.mid command refl passes)
 
-  pub turn_of_item : (at : Scope) (x l : Ident) (body : Block) → CommandIn f at (ForEach x l body) → Run (run_block setting body) f (knowing at x Element) body → (v : Val) (st end : Stand) → HasType types.Int v → Holds f at st
+  pub turn_of_item : (at : Scope) (x l : Ident) (body : Block) → CommandIn f at (ForEach x l body) → Run (run_block setting body) f (knowing at x Constant) body → (v : Val) (st end : Stand) → HasType types.Int v → Holds f at st
       → item_turn (unit_of (loop_variables f.txn.body) x.num) x.num (run_block setting body) v st ≡ Goes end → Turned f at st end
   turn_of_item at x l body command run v st end fits holds is =
       let u : ℕ = unit_of (loop_variables f.txn.body) x.num in
@@ -140,7 +140,7 @@ module _ (f : Frame) where
           let turned = all_turned (λ k. Unit {0}) f at ks turn (all_keys ks) (λ k one two unit held step. turn_of_row at r t test body command run k one two held step) st went.mid holds went.first_is in
           makes_rows f at r t test body st went.mid end turned went.rest
 
-  of_items : (at : Scope) (x l : Ident) (body : Block) (st end : Stand) → CommandIn f at (ForEach x l body) → Run (run_block setting body) f (knowing at x Element) body → Holds f at st
+  of_items : (at : Scope) (x l : Ident) (body : Block) (st end : Stand) → CommandIn f at (ForEach x l body) → Run (run_block setting body) f (knowing at x Constant) body → Holds f at st
       → run_command setting (ForEach x l body) st ≡ Goes end → Makes f at (ForEach x l body) st end
   of_items at x l body st end command run holds is =
       let turn : Val → Stand → Flow = item_turn (unit_of (loop_variables f.txn.body) x.num) x.num (run_block setting body) in
@@ -214,7 +214,7 @@ module _ (f : Frame) where
     of_command (ForRows r t test body) at st end command holds is =
         of_rows at r t test body st end command (λ one two held step. of_block body (knowing at r (RowOf t)) one two (rows_in f at r t test body command) held step) holds is
     of_command (ForEach x l body) at st end command holds is =
-        of_items at x l body st end command (λ one two held step. of_block body (knowing at x Element) one two (items_in f at x l body command) held step) holds is
+        of_items at x l body st end command (λ one two held step. of_block body (knowing at x Constant) one two (items_in f at x l body command) held step) holds is
     of_command (Insert t es) at st end command holds is = of_insert at t es st end command holds is
     of_command (Update t k sets) at st end command holds is = of_update at t k sets st end command holds is
     of_command (Remove t k) at st end command holds is = of_remove at t k st end command holds is

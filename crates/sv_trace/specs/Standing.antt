@@ -12,7 +12,7 @@ use Rattle.sv_app.specs.declared.gots.Got.{Got}
 use Rattle.sv_app.specs.declared.gots.Got.TheVariants as gots
 use Rattle.sv_app.specs.declared.names.Known.{Known}
 use Rattle.sv_app.specs.declared.names.Meaning.{Meaning}
-use Rattle.sv_app.specs.declared.names.Meaning.TheVariants.{Parameter, Row as RowOf, Element}
+use Rattle.sv_app.specs.declared.names.Meaning.TheVariants.{Parameter, Row as RowOf, Constant}
 use Rattle.sv_app.specs.declared.places.Place.{Place}
 use Rattle.sv_app.specs.declared.requests.Arg.{Arg}
 use Rattle.sv_app.specs.declared.schemas.Ty.{Ty}
@@ -165,7 +165,7 @@ abbrev mutual
   Suits f at (Fetch r t k) = AllRead at k × TableIs f r t
   Suits f at (Choose test ys ns) = TestReads at test × BlockSuits f at ys × BlockSuits f at ns
   Suits f at (ForRows r t test body) = TableIs f r t × IsUnit f r body × BlockSuits f (knowing at r (RowOf t)) body
-  Suits f at (ForEach x l body) = TypeIs f x types.Int × IsUnit f x body × BlockSuits f (knowing at x Element) body
+  Suits f at (ForEach x l body) = TypeIs f x types.Int × IsUnit f x body × BlockSuits f (knowing at x Constant) body
   Suits f at (Insert t es) = AllRead at es × Allows f.schema t acts.Insert × AreOfColumns f t es
   Suits f at (Update t k sets) = AllRead at k × Allows f.schema t acts.Update × SetsSuit f (behind_set at t) t sets
   Suits f at (Remove t k) = AllRead at k × Allows f.schema t acts.Remove

@@ -10,7 +10,7 @@ use Rattle.sv_app.specs.declared.apps.Ident.{Ident}
 use Rattle.sv_app.specs.declared.names.Declared.{Declared}
 use Rattle.sv_app.specs.declared.names.Known.{Known}
 use Rattle.sv_app.specs.declared.names.Meaning.{Meaning}
-use Rattle.sv_app.specs.declared.names.Meaning.TheVariants.{Parameter, Variable as Local, Row, Element}
+use Rattle.sv_app.specs.declared.names.Meaning.TheVariants.{Parameter, Variable as Local, Row, Constant}
 use Rattle.sv_app.specs.declared.refusals.Code.TheVariants.{Unknown, Typing}
 use Rattle.sv_app.specs.declared.refusals.Refusal.{Refusal}
 use Rattle.sv_app.specs.declared.schemas.Column.{Column}
@@ -64,7 +64,7 @@ abbrev pub bare_meaning : Meaning → Meaning
 bare_meaning (Parameter ty) = Parameter ty
 bare_meaning (Local ty) = Local ty
 bare_meaning (Row table) = Row (bare table)
-bare_meaning Element = Element
+bare_meaning Constant = Constant
 
 abbrev pub bare_known : Known → Known
 bare_known k = record { name = bare k.name; meaning = bare_meaning k.meaning }
@@ -144,14 +144,14 @@ meant_type_bare None = refl
 meant_type_bare (Some (Parameter ty)) = refl
 meant_type_bare (Some (Local ty)) = refl
 meant_type_bare (Some (Row table)) = refl
-meant_type_bare (Some Element) = refl
+meant_type_bare (Some Constant) = refl
 
 field_type_bare : (schema : List Declaration) (m : Option Meaning) (column : Ident) → field_type (bare_schema schema) (option_map bare_meaning m) (bare column) ≡ field_type schema m column
 field_type_bare schema None column = refl
 field_type_bare schema (Some (Parameter ty)) column = refl
 field_type_bare schema (Some (Local ty)) column = refl
 field_type_bare schema (Some (Row table)) column = column_type_bare schema table column
-field_type_bare schema (Some Element) column = refl
+field_type_bare schema (Some Constant) column = refl
 
 old_type_bare : (schema : List Declaration) (o : Option Ident) (column : Ident) → old_type (bare_schema schema) (option_map bare o) (bare column) ≡ old_type schema o column
 old_type_bare schema None column = refl
@@ -185,7 +185,7 @@ value_bare None x = refl
 value_bare (Some (Parameter ty)) x = refl
 value_bare (Some (Local ty)) x = refl
 value_bare (Some (Row table)) x = refl
-value_bare (Some Element) x = refl
+value_bare (Some Constant) x = refl
 
 no_column_of_bare : (schema : List Declaration) (table name : Ident) → no_column_of (bare_schema schema) (bare table) (bare name) ≡ no_column_of schema table name
 no_column_of_bare schema table name =
@@ -196,7 +196,7 @@ field_bare at None r c = refl
 field_bare at (Some (Parameter ty)) r c = refl
 field_bare at (Some (Local ty)) r c = refl
 field_bare at (Some (Row table)) r c = no_column_of_bare at.schema table c
-field_bare at (Some Element) r c = refl
+field_bare at (Some Constant) r c = refl
 
 old_bare : (at : Scope) (o : Option Ident) (c : Ident) (s : Spot) → old_faults (bare_scope at) (option_map bare o) (bare c) s ≡ old_faults at o c s
 old_bare at None c s = refl
@@ -277,14 +277,14 @@ assignment_bare at None x e = refl
 assignment_bare at (Some (Parameter ty)) x e = refl
 assignment_bare at (Some (Local ty)) x e = (λ i. fault_if (are_apart ty (type_bare at e i)) (spot_bare e i) Typing)
 assignment_bare at (Some (Row table)) x e = refl
-assignment_bare at (Some Element) x e = refl
+assignment_bare at (Some Constant) x e = refl
 
 walk_bare : (m : Option Meaning) (l : Ident) → walk_faults (option_map bare_meaning m) (bare l) ≡ walk_faults m l
 walk_bare None l = refl
 walk_bare (Some (Parameter ty)) l = refl
 walk_bare (Some (Local ty)) l = refl
 walk_bare (Some (Row table)) l = refl
-walk_bare (Some Element) l = refl
+walk_bare (Some Constant) l = refl
 
 declared_type_bare : (at : Scope) (e : Term) → declared_type (bare_scope at) (bare_term e) ≡ declared_type at e
 declared_type_bare at e = (λ i. type_if_right (term_bare at e i) (type_bare at e i))
@@ -342,7 +342,7 @@ mutual
   inner_bare at (Fetch r t k) = refl
   inner_bare at (Choose c ys ns) = (λ i. block_bare at ys i ++ block_bare at ns i)
   inner_bare at (ForRows r t c body) = block_bare (knowing at r (Row t)) body
-  inner_bare at (ForEach x l body) = block_bare (knowing at x Element) body
+  inner_bare at (ForEach x l body) = block_bare (knowing at x Constant) body
   inner_bare at (Insert t vs) = refl
   inner_bare at (Update t k ss) = refl
   inner_bare at (Remove t k) = refl

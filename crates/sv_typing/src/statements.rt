@@ -216,7 +216,7 @@ fn note_inner(
             note_block(alloc, first, tables, &inside, body)
         }
         Parts::Each { var, body, .. } => {
-            let inside = with_name(alloc, known, var, Meaning::Element)?;
+            let inside = with_name(alloc, known, var, Meaning::Constant)?;
             note_block(alloc, first, tables, &inside, body)
         }
         _ => Ok(()),

@@ -28,7 +28,7 @@ fn type_meant(meaning: Option<Meaning>) -> Option<Ty>
     match meaning {
         Some(Meaning::Parameter(ty)) => value_type(ty),
         Some(Meaning::Variable(ty)) => ty,
-        Some(Meaning::Element) => Some(Ty::Int),
+        Some(Meaning::Constant) => Some(Ty::Int),
         Some(Meaning::Row(_)) | None => None,
     }
 }

@@ -1,0 +1,21 @@
+ghost use Rattle.std.specs.Prelude.{◌≡◌, ◌≤◌};
+ghost use Rattle.sv_app.specs.Draws.{DrawsDiffer, first_key};
+
+/// The least key that is drawn; smaller ones are left to initial rows.
+pub const FIRST_OF_ALL: i64 = 1_000_000_000_000;
+
+/// The first of the 64 keys that a request may draw. Sessions are numbered from 1 to 64, and `index` is how many requests
+/// of the session came before it.
+pub fn first_key(session: u16, index: u32) -> i64
+    requires one { 1 ≤ session }
+    requires most { session ≤ 64 }
+    ensures { result ≡ first_key session index }
+{
+    FIRST_OF_ALL + 4096 * index as i64 + 64 * (session as i64 - 1)
+}
+
+/// No key is drawn twice, by whatever requests of whatever sessions.
+#[tactic(auto, using(crate::proofs::DrawLaws::draws_differ))]
+pub fn draws_differ()
+    ensures { DrawsDiffer }
+{}
