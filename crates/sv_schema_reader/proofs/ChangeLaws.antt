@@ -71,6 +71,7 @@ merge_clear : (m : Merge) (l : List Token) → merge_kind m l → Clear W l
 merge_clear merges.Plain l is = none_clear l is
 merge_clear merges.Lww l is = two_kinds (Mark At) (Name (codes "LWW")) l is refl refl
 merge_clear merges.NumDelta l is = two_kinds (Mark At) (Name (codes "NUMDELTA")) l is refl refl
+merge_clear merges.Fresh l is = two_kinds (Mark At) (Name (codes "FRESH")) l is refl refl
 
 column_clear : (c : Column) (l : List Token) → column c l → Clear W l
 column_clear c l b = both_clear W l b (by_name c.name b.front b.first) (both_clear W b.back b.then (type_clear c.ty b.then.front b.then.first) (merge_clear c.merge b.then.back b.then.then))

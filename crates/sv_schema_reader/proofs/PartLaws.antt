@@ -124,16 +124,19 @@ abbrev merge_written : Merge → List ℕ → Type 0
 merge_written merges.Plain bytes = ⊥
 merge_written merges.Lww bytes = bytes ≡ codes "LWW"
 merge_written merges.NumDelta bytes = bytes ≡ codes "NUMDELTA"
+merge_written merges.Fresh bytes = bytes ≡ codes "FRESH"
 
 abbrev merge_word : Merge → List Token → Type 0
 merge_word merges.Plain = λ _. ⊥
 merge_word merges.Lww = word (codes "LWW")
 merge_word merges.NumDelta = word (codes "NUMDELTA")
+merge_word merges.Fresh = word (codes "FRESH")
 
 merge_back : (bytes : List ℕ) (m : Merge) → merge_named bytes ≡ Some m → merge_written m bytes
 merge_back bytes m e =
     chosen bytes (codes "LWW") merges.Lww _ m (λ x. merge_written x bytes) (λ is. is)
-    (chosen bytes (codes "NUMDELTA") merges.NumDelta None m (λ x. merge_written x bytes) (λ is. is) (λ none. absurd cc)) e
+    (chosen bytes (codes "NUMDELTA") merges.NumDelta _ m (λ x. merge_written x bytes) (λ is. is)
+    (chosen bytes (codes "FRESH") merges.Fresh None m (λ x. merge_written x bytes) (λ is. is) (λ none. absurd cc))) e
 
 merge_word_law : (clash : List Token → Bool) → Plain schemas clash merge_word (token_at (λ token. by_word merge_named token.kind))
 merge_word_law clash = same_plain (leaf schemas clash (λ token. by_word merge_named token.kind) (token_of (Name (codes "LWW"))) merges.Lww refl) into out
@@ -142,6 +145,7 @@ merge_word_law clash = same_plain (leaf schemas clash (λ token. by_word merge_n
     by_merge merges.Plain l token only w = w.2
     by_merge merges.Lww l token only w = record { token = token; only = only; holds = w.1 ∙ ap Name w.2 }
     by_merge merges.NumDelta l token only w = record { token = token; only = only; holds = w.1 ∙ ap Name w.2 }
+    by_merge merges.Fresh l token only w = record { token = token; only = only; holds = w.1 ∙ ap Name w.2 }
 
     into : (m : Merge) (l : List Token) → Means (λ token. by_word merge_named token.kind) m l → merge_word m l
     into m l is = by_merge m l is.token is.only (worded merge_named merge_written merge_back is.token.kind m is.holds)
@@ -150,6 +154,7 @@ merge_word_law clash = same_plain (leaf schemas clash (λ token. by_word merge_n
     out merges.Plain l w = absurd w
     out merges.Lww l w = record { token = w.token; only = w.only; holds = ap (by_word merge_named) w.holds }
     out merges.NumDelta l w = record { token = w.token; only = w.only; holds = ap (by_word merge_named) w.holds }
+    out merges.Fresh l w = record { token = w.token; only = w.only; holds = ap (by_word merge_named) w.holds }
 
 pub merge_kind_law : Plain schemas (is_next (Mark At)) merge_kind merge_kind_at
 unfolding merge_kind_at
@@ -162,6 +167,7 @@ merge_kind_law = same_plain
     by_merge merges.Plain l b = absurd b.then
     by_merge merges.Lww l b = b
     by_merge merges.NumDelta l b = b
+    by_merge merges.Fresh l b = b
 
     into : (m : Merge) (l : List Token) → Either (Made (λ m. m) (λ m. kind (Mark At) · merge_word m)) (Made (λ (_ : Unit {0}). merges.Plain) (λ _. nothing)) m l → merge_kind m l
     into m l (Left is) = subst (λ x. merge_kind x l) (sym is.made) (by_merge is.«from» l is.is)
@@ -171,6 +177,7 @@ merge_kind_law = same_plain
     out merges.Plain l is = Right (record { «from» = tt; is = is; made = refl })
     out merges.Lww l is = Left (record { «from» = merges.Lww; is = is; made = refl })
     out merges.NumDelta l is = Left (record { «from» = merges.NumDelta; is = is; made = refl })
+    out merges.Fresh l is = Left (record { «from» = merges.Fresh; is = is; made = refl })
 
 pub column_law : Plain schemas (is_next (Mark At)) column column_at
 unfolding column_at

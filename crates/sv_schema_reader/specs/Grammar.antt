@@ -33,13 +33,14 @@ column_type types.Int = word (codes "int")
 column_type types.Text = word (codes "text")
 column_type types.Ints = λ _. ⊥
 
--- ["@" ("LWW" | "NUMDELTA")]
+-- ["@" ("LWW" | "NUMDELTA" | "FRESH")]
 abbrev pub merge_kind : Merge → List Token → Type 0
 merge_kind merges.Plain = nothing
 merge_kind merges.Lww = mark At · word (codes "LWW")
 merge_kind merges.NumDelta = mark At · word (codes "NUMDELTA")
+merge_kind merges.Fresh = mark At · word (codes "FRESH")
 
--- NAME ("int" | "text") ["@" ("LWW" | "NUMDELTA")]
+-- NAME ("int" | "text") ["@" ("LWW" | "NUMDELTA" | "FRESH")]
 abbrev pub column : Column → List Token → Type 0
 column c = name c.name · column_type c.ty · merge_kind c.merge
 

@@ -34,7 +34,9 @@ abbrev pub type_named : List ℕ → Option Ty
 type_named word = if bytes_eq word (codes "int") then Some types.Int else if bytes_eq word (codes "text") then Some types.Text else None
 
 abbrev pub merge_named : List ℕ → Option Merge
-merge_named word = if bytes_eq word (codes "LWW") then Some merges.Lww else if bytes_eq word (codes "NUMDELTA") then Some merges.NumDelta else None
+merge_named word =
+    if bytes_eq word (codes "LWW") then Some merges.Lww else if bytes_eq word (codes "NUMDELTA") then Some merges.NumDelta
+    else if bytes_eq word (codes "FRESH") then Some merges.Fresh else None
 
 unfoldable pub table_kind_at : List Token → Read Kind
 table_kind_at tokens =

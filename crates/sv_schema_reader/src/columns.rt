@@ -48,6 +48,8 @@ fn merge_named(word: &[u8]) -> Option<Merge>
         Some(Merge::Lww)
     } else if word == b"NUMDELTA".as_slice() {
         Some(Merge::NumDelta)
+    } else if word == b"FRESH".as_slice() {
+        Some(Merge::Fresh)
     } else {
         None
     }
