@@ -145,36 +145,34 @@ kind_faults t act name = fault_if (not (allows t act)) name.spot Kind
 abbrev pub count_faults : List Ident → List Term → Ident → List Refusal
 count_faults columns terms name = fault_if (not (length columns == length terms)) name.spot Typing
 
--- a value of another type than the column's, at the value
-abbrev pub type_faults : Scope → Declaration → Ident → Term → List Refusal
-type_faults at t column e = fault_if (are_apart (option_map (λ c. c.ty) (column_of t column)) (type_of at e)) (spot_of e) Typing
+-- a value of another type than the column's, at the value, or at a place that stands for all of them
+abbrev pub place_for : Option Spot → Term → Spot
+place_for None e = spot_of e
+place_for (Some spot) e = spot
 
-abbrev pub each_type_faults : Scope → Declaration → List Ident → List Term → List Refusal
-each_type_faults at t [] terms = []
-each_type_faults at t (column ∷ columns) [] = []
-each_type_faults at t (column ∷ columns) (e ∷ terms) = type_faults at t column e ++ each_type_faults at t columns terms
+abbrev pub type_faults : Scope → Declaration → Option Spot → Ident → Term → List Refusal
+type_faults at t place column e = fault_if (are_apart (option_map (λ c. c.ty) (column_of t column)) (type_of at e)) (place_for place e) Typing
+
+abbrev pub each_type_faults : Scope → Declaration → Option Spot → List Ident → List Term → List Refusal
+each_type_faults at t place [] terms = []
+each_type_faults at t place (column ∷ columns) [] = []
+each_type_faults at t place (column ∷ columns) (e ∷ terms) = type_faults at t place column e ++ each_type_faults at t place columns terms
 
 -- the values of these columns of a table
 abbrev pub value_list_faults : Scope → Declaration → List Ident → List Term → Ident → List Refusal
-value_list_faults at t columns terms name = count_faults columns terms name ++ each_type_faults at t columns terms
+value_list_faults at t columns terms name = count_faults columns terms name ++ each_type_faults at t None columns terms
 
 -- the columns but the key, whose values a `fresh` gives
 abbrev pub drawn_columns : Declaration → List Ident
 drawn_columns t = filter (λ name. not (is_key t name)) (column_names t)
 
-abbrev pub drawn_type_faults : Scope → Declaration → List Ident → List Term → Ident → List Refusal
-drawn_type_faults at t [] terms table = []
-drawn_type_faults at t (column ∷ columns) [] table = []
-drawn_type_faults at t (column ∷ columns) (e ∷ terms) table =
-    fault_if (are_apart (option_map (λ c. c.ty) (column_of t column)) (type_of at e)) table.spot Typing ++ drawn_type_faults at t columns terms table
-
 -- a wrong number or type of the values of a `fresh`, at the table's name
 abbrev pub drawn_faults : Scope → Declaration → List Term → Ident → List Refusal
-drawn_faults at t terms table = count_faults (drawn_columns t) terms table ++ drawn_type_faults at t (drawn_columns t) terms table
+drawn_faults at t terms name = count_faults (drawn_columns t) terms name ++ each_type_faults at t (Some name.spot) (drawn_columns t) terms
 
 -- a name behind `set` that is no column, or one of the key, at the name; a value of another type
 abbrev pub set_faults : Scope → Declaration → Ident × Term → List Refusal
-set_faults at t set = no_column t set.0 ++ fault_if (is_key t set.0) set.0.spot Typing ++ type_faults at t set.0 set.1
+set_faults at t set = no_column t set.0 ++ fault_if (is_key t set.0) set.0.spot Typing ++ type_faults at t None set.0 set.1
 
 abbrev pub sets_faults : Scope → Ident → Declaration → List (Ident × Term) → List Refusal
 sets_faults at name t sets = flat_map (λ set. set_faults (updating at name) t set) sets

@@ -8,7 +8,7 @@ use Rattle.sv_app.specs.declared.gots.Got.TheVariants.{Num, Text}
 use Rattle.sv_app.specs.declared.places.Place.{Place}
 use Rattle.sv_app.specs.declared.schemas.Column.{Column}
 use Rattle.sv_app.specs.declared.schemas.Merge.{Merge}
-use Rattle.sv_app.specs.declared.schemas.Merge.TheVariants.{NumDelta, Lww, Plain}
+use Rattle.sv_app.specs.declared.schemas.Merge.TheVariants.{NumDelta, Lww, Plain, Fresh}
 use Rattle.sv_app.specs.Lookups.{holds_of}
 use Rattle.sv_app.specs.Schema.{Declaration}
 use Rattle.sv_app.specs.Tables.{place_cmp, Row}
@@ -85,11 +85,13 @@ number_room : (merge : Merge) (n : ℤ) (k : ℕ) → k ≤ 1024 → NumberFits 
 number_room NumDelta n k le h = (omega (arith, ints, le, h.0, h.1), omega (arith, ints, le, h.0, h.1))
 number_room Lww n k le h = words_room k (Num n) le h
 number_room Plain n k le h = words_room k (Num n) le h
+number_room Fresh n k le h = words_room k (Num n) le h
 
 number_word : (merge : Merge) (n : ℤ) → is_numdelta merge ≡ false → NumberFits merge n → IsWord n
 number_word NumDelta n plain h = absurd cc
 number_word Lww n plain h = h
 number_word Plain n plain h = h
+number_word Fresh n plain h = h
 
 fit_room : (c : Column) (got : Got) (k : ℕ) → k ≤ 1024 → GotFits c got → HasRoom k got
 fit_room c (Num n) k le h = number_room c.merge n k le h.1

@@ -10,7 +10,7 @@ use Rattle.sv_app.specs.declared.places.Place.{Place}
 use Rattle.sv_app.specs.declared.requests.InitRow.{InitRow}
 use Rattle.sv_app.specs.declared.schemas.Column.{Column}
 use Rattle.sv_app.specs.declared.schemas.Merge.{Merge}
-use Rattle.sv_app.specs.declared.schemas.Merge.TheVariants.{Plain, Lww, NumDelta}
+use Rattle.sv_app.specs.declared.schemas.Merge.TheVariants.{Plain, Lww, NumDelta, Fresh}
 use Rattle.sv_app.specs.declared.schemas.Ty.{Ty}
 use Rattle.sv_app.specs.declared.schemas.Ty.TheVariants as types
 use Rattle.sv_app.specs.Accepted.{AcceptedSchema}
@@ -36,6 +36,7 @@ CountInts columns = (place : ℕ) (column : Column) → slice_get columns place 
 
 cell-value : (merge : Merge) (ty : Ty) (v : Val) → HasType ty v → (merge ≡ NumDelta → ty ≡ types.Int) → value_of (cell_from merge v) ≡ got_of v
 cell-value Plain ty v fits count = refl
+cell-value Fresh ty v fits count = refl
 cell-value Lww ty v fits count = refl
 cell-value NumDelta ty (Int n) fits count = refl
 cell-value NumDelta ty (Text t) fits count = absurd (subst (λ k. HasType k (Text t)) (count refl) fits)

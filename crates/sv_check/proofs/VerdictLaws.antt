@@ -1,6 +1,6 @@
 -- From what is said of each invariant to the verdict.
 use Rattle.std.proofs.Common.{◌≡◌, ◌⊎◌, inl, inr, ℕ, zero, suc, ◌+◌, ◌<◌, ◌≤◌, Bool, true, false, cond, List, [], ◌∷◌, map, get_or, length, Option, Some, None, slice_get, refl, sym, ap, subst, ◌∙◌, arith}
-use Rattle.std.specs.Prelude.{unwrap_or}
+use Rattle.std.specs.Prelude.{◌&&◌, unwrap_or}
 use Rattle.std.specs.List.{flat_map}
 use Rattle.std.specs.Ordering.{is_lt, is_eq}
 use Rattle.std.specs.FinMap.{get, get-insert}
@@ -11,14 +11,14 @@ use Rattle.sv_value.specs.declared.values.Key.{Key}
 use Rattle.sv_value.specs.Orders.{key_cmp}
 use Rattle.sv_value.proofs.OrderLaws.{exact_keys}
 use Rattle.sv_app.specs.declared.acts.Act.{Act}
-use Rattle.sv_app.specs.declared.acts.Act.TheVariants.{Insert, Update, Remove}
+use Rattle.sv_app.specs.declared.acts.Act.TheVariants.{Insert, Fresh, Update, Remove}
 use Rattle.sv_app.specs.declared.places.Place.{Place}
 use Rattle.sv_app.specs.declared.schemas.Inv.{Inv}
 use Rattle.sv_app.specs.declared.schemas.Kind.{Kind}
 use Rattle.sv_app.specs.declared.schemas.Kind.TheVariants.{Plain, Aoset, Uoset, Auset, Arset}
 use Rattle.sv_app.specs.Accepted.{AcceptedSchema}
 use Rattle.sv_app.specs.Conditions.{AreNumberedFrom}
-use Rattle.sv_app.specs.Kinds.{kind_allows, is_grow_only}
+use Rattle.sv_app.specs.Kinds.{kind_allows, keys_allow, is_fresh, is_grow_only}
 use Rattle.sv_app.specs.Schema.{Rule, Bound, OneOf, Different, Refers, Invariant, Declaration, rule_of, invariant_of}
 use Rattle.sv_app.specs.Tables.{Row, Tables}
 use Rattle.sv_app.specs.Valid.{value_of, key_by, place_at, IsKept, IsPresent, Binds, Holds, IsInvariant, Valid, IsBroken, IsFirstBroken}
@@ -269,6 +269,10 @@ first_is schema t number key accepted found = record {
 abbrev AreGrown : List Declaration → Tables → Type 0
 AreGrown schema t = (table : ℕ) (declaration : Declaration) (key : Key) (row : Row) → slice_get schema table ≡ Some declaration → is_grow_only declaration.kind ≡ true → IsKept t table key row → row.present ≡ true
 
+and_left : (a b : Bool) → (a && b) ≡ true → a ≡ true
+and_left true b e = refl
+and_left false b e = absurd cc
+
 removes_none : (kind : Kind) → is_grow_only kind ≡ true → kind_allows kind Remove ≡ true → ⊥
 removes_none Plain g a = cc
 removes_none Aoset g a = cc
@@ -279,6 +283,7 @@ removes_none Arset g a = cc
 turned_present : (act : Act) (kind : Kind) (o : Option Row) → is_grow_only kind ≡ true → kind_allows kind act ≡ true → IsFound act o → ((row : Row) → o ≡ Some row → row.present ≡ true)
     → unwrap_or (turn_of act) (stands o) ≡ true
 turned_present Insert kind o grows allowed found before = refl
+turned_present Fresh kind o grows allowed found before = refl
 turned_present Update kind None grows allowed found before = absurd found
 turned_present Update kind (Some row) grows allowed found before = before row refl
 turned_present Remove kind o grows allowed found before = absurd (removes_none kind grows allowed)
@@ -296,7 +301,7 @@ one_grown schema e t fits found grown table declaration key row declared grows k
         let here : place_at table key ≡ (effect_of e).place = tells_apart exact_places (place_at table key) (effect_of e).place h in
         let kind : fits.table ≡ declaration = same_some (slice_get schema table) fits.table declaration (ap (λ p. slice_get schema p.table) here ∙ fits.declared) declared in
         ap (λ r. r.present) (sym (same_row (row_after schema (effect_of e) (get t (effect_of e).place)) row is))
-        ∙ turned_present e.act declaration.kind (get t (effect_of e).place) grows (subst (λ d. kind_allows d.kind e.act ≡ true) kind fits.fits.allowed) found
+        ∙ turned_present e.act declaration.kind (get t (effect_of e).place) grows (subst (λ d. kind_allows d.kind e.act ≡ true) kind (and_left (kind_allows fits.table.kind e.act) (keys_allow (is_fresh fits.table) e.act) fits.fits.allowed)) found
         (λ old at. grown table declaration key old declared grows (ap (get t) here ∙ at))
 
 pub still_grown : (schema : List Declaration) (es : List RowEffect) (t : Tables) → AllFit schema es → FindsAll schema (map effect_of es) t → AreGrown schema t → AreGrown schema (with_effects schema (map effect_of es) t)

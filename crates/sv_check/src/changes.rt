@@ -26,7 +26,7 @@ fn turned(act: Act, present: bool) -> bool
     ensures { result ≡ unwrap_or (turn_of act) present }
 {
     match act {
-        Act::Insert => true,
+        Act::Insert | Act::Fresh => true,
         Act::Update => present,
         Act::Remove => false,
     }

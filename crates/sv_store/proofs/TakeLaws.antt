@@ -6,7 +6,7 @@ use Rattle.std.specs.FinMap as map_of
 use Rattle.std.proofs.lemmas.List.{drop_more}
 use Rattle.sv_value.specs.declared.stamps.Stamp.{Stamp}
 use Rattle.sv_app.specs.declared.acts.Act.{Act}
-use Rattle.sv_app.specs.declared.acts.Act.TheVariants.{Insert, Update, Remove}
+use Rattle.sv_app.specs.declared.acts.Act.TheVariants.{Insert, Fresh, Update, Remove}
 use Rattle.sv_app.specs.declared.schemas.Table.{Table}
 use Rattle.sv_app.specs.Schema.{Declaration, declaration_of, schema_of}
 use Rattle.sv_app.proofs.AcceptedLaws.{narrow, no_lists}
@@ -57,12 +57,14 @@ pub record Needs (table : Declaration) (stamp : Stamp) (e : RowEffect) (s : Stor
 
 has_room : (act : Act) (o : Option StampedRow) (room n : ℕ) → IsFound act o → as_insert act + n ≤ room → HasRoom o room
 has_room Insert None room n found le = omega (arith, le)
+has_room Fresh None room n found le = omega (arith, le)
 has_room Update None room n found le = absurd found
 has_room Remove None room n found le = absurd found
 has_room act (Some row) room n found le = tt
 
 rest_room : (act : Act) (o : Option StampedRow) (room n : ℕ) → IsFound act o → as_insert act + n ≤ room → n ≤ room_after o room
 rest_room Insert None room n found le = omega (arith, le)
+rest_room Fresh None room n found le = omega (arith, le)
 rest_room Update None room n found le = absurd found
 rest_room Remove None room n found le = absurd found
 rest_room act (Some row) room n found le = omega (arith, le)
@@ -70,9 +72,11 @@ rest_room act (Some row) room n found le = omega (arith, le)
 -- a change takes no more room than its insert
 spent : (act : Act) (o : Option StampedRow) (room : ℕ) → IsFound act o → room ≤ room_after o room + as_insert act
 spent Insert None room found = omega arith
+spent Fresh None room found = omega arith
 spent Update None room found = absurd found
 spent Remove None room found = absurd found
 spent Insert (Some row) room found = omega arith
+spent Fresh (Some row) room found = absurd found
 spent Update (Some row) room found = omega arith
 spent Remove (Some row) room found = omega arith
 

@@ -1,22 +1,24 @@
 -- Transactions without the numbers of their names: all that is looked at before the names are numbered is told by names and places.
 use Rattle.std.proofs.Common.{◌≡◌, List, [], ◌∷◌, ◌++◌, refl, sym, ap, ◌∙◌, map, reverse, Option, Some, None}
-use Rattle.std.specs.Prelude.{◌||◌, ◌&&◌, not, ◌==◌}
-use Rattle.std.specs.List.{find, flat_map}
+use Rattle.std.specs.Prelude.{Bool, true, false, if◌then◌else◌, ◌||◌, ◌&&◌, not, ◌==◌}
+use Rattle.std.specs.List.{find, flat_map, filter, list_any}
 use Rattle.std.specs.Option.{option_map, option_and_then, is_none}
 use Rattle.std.proofs.lemmas.List.{length-map, map-append, reverse-append}
 use Rattle.sv_value.specs.declared.spots.Spot.{Spot}
+use Rattle.sv_app.specs.declared.acts.Act.{Act}
 use Rattle.sv_app.specs.declared.acts.Act.TheVariants as acts
 use Rattle.sv_app.specs.declared.apps.Ident.{Ident}
 use Rattle.sv_app.specs.declared.names.Declared.{Declared}
 use Rattle.sv_app.specs.declared.names.Known.{Known}
 use Rattle.sv_app.specs.declared.names.Meaning.{Meaning}
 use Rattle.sv_app.specs.declared.names.Meaning.TheVariants.{Parameter, Variable as Local, Row, Constant}
-use Rattle.sv_app.specs.declared.refusals.Code.TheVariants.{Unknown, Typing}
+use Rattle.sv_app.specs.declared.refusals.Code.TheVariants.{Unknown, Kind, Typing}
 use Rattle.sv_app.specs.declared.refusals.Refusal.{Refusal}
 use Rattle.sv_app.specs.declared.schemas.Column.{Column}
 use Rattle.sv_app.specs.declared.schemas.Ty.{Ty}
 use Rattle.sv_app.specs.declared.txns.Rel.{Rel}
-use Rattle.sv_app.specs.Lookups.{is_named, column_of, table_of, holds_of, column_names}
+use Rattle.sv_app.specs.Kinds.{kind_allows, keys_allow, is_drawn}
+use Rattle.sv_app.specs.Lookups.{is_named, is_key, column_of, table_of, holds_of, column_names}
 use Rattle.sv_app.specs.Schema.{Declaration}
 use Rattle.sv_app.specs.Scopes.{Scope, meaning_of, knowing, updating, parameter, opening}
 use Rattle.sv_app.specs.Statements.{inner_statements, block_statements}
@@ -45,6 +47,7 @@ use Rattle.sv_app.specs.Trees.{
   ForRows,
   ForEach,
   Insert,
+  Fresh,
   Update,
   Remove,
   Abort,
@@ -55,7 +58,7 @@ use Rattle.sv_app.specs.Trees.{
   Transaction,
 }
 use Rattle.sv_app.specs.TxnNames.{plain_name, declared_by, declares, names_of}
-use Rattle.sv_app.specs.TxnTyping.{value_faults, no_column_of, field_faults, old_faults, operand_faults, term_faults, is_order, comparison_faults, test_faults, condition_faults, all_term_faults, no_table, at_table, kind_faults, count_faults, type_faults, each_type_faults, value_list_faults, set_faults, sets_faults, assignment_faults, walk_faults, type_if_right, declared_type, behind, command_faults, inner_faults, block_faults, txn_faults, txns_faults}
+use Rattle.sv_app.specs.TxnTyping.{drawn_columns, drawn_faults, value_faults, no_column_of, field_faults, old_faults, operand_faults, term_faults, is_order, comparison_faults, test_faults, condition_faults, all_term_faults, no_table, at_table, kind_faults, count_faults, type_faults, each_type_faults, value_list_faults, set_faults, sets_faults, assignment_faults, walk_faults, type_if_right, declared_type, behind, command_faults, inner_faults, block_faults, txn_faults, txns_faults}
 use Rattle.sv_app.specs.Typing.{fault_if, is_text, repeats}
 use Rattle.sv_typing.proofs.Erased.{bare, bare_column, bare_table, bare_schema, find_map, map_map, column_bare, table_bare, key_bare, columns_bare, repeats_bare, no_column_bare, flat_bare, meant_bare, no_table_bare, no_column_in}
 use Rattle.sv_typing.proofs.NumberedSchema.{map_same, option_same}
@@ -101,6 +104,7 @@ abbrev mutual
   bare_command (ForRows r t c body) = ForRows (bare r) (bare t) (option_map bare_test c) (bare_block body)
   bare_command (ForEach x l body) = ForEach (bare x) (bare l) (bare_block body)
   bare_command (Insert t vs) = Insert (bare t) (map bare_term vs)
+  bare_command (Fresh x t vs) = Fresh (bare x) (bare t) (map bare_term vs)
   bare_command (Update t k ss) = Update (bare t) (map bare_term k) (map bare_set ss)
   bare_command (Remove t k) = Remove (bare t) (map bare_term k)
   bare_command (Abort n) = Abort n
@@ -248,24 +252,53 @@ at_table_bare schema t p q same = ap (λ o. at_table o (bare t) p) (table_bare s
 count_bare : (names : List Ident) (es : List Term) (t : Ident) → count_faults (map bare names) (map bare_term es) (bare t) ≡ count_faults names es t
 count_bare names es t = (λ i. fault_if (not (length-map names bare i == length-map es bare_term i)) t.spot Typing)
 
-one_type_bare : (at : Scope) (d : Declaration) (column : Ident) (e : Term) → type_faults (bare_scope at) (bare_table d) (bare column) (bare_term e) ≡ type_faults at d column e
-one_type_bare at d column e = (λ i. fault_if (are_apart (own_type d column i) (type_bare at e i)) (spot_bare e i) Typing)
+one_type_bare : (at : Scope) (d : Declaration) (place : Option Spot) (column : Ident) (e : Term)
+    → type_faults (bare_scope at) (bare_table d) place (bare column) (bare_term e) ≡ type_faults at d place column e
+one_type_bare at d None column e = (λ i. fault_if (are_apart (own_type d column i) (type_bare at e i)) (spot_bare e i) Typing)
+one_type_bare at d (Some spot) column e = (λ i. fault_if (are_apart (own_type d column i) (type_bare at e i)) spot Typing)
 
-types_bare : (at : Scope) (d : Declaration) (names : List Ident) (es : List Term) → each_type_faults (bare_scope at) (bare_table d) (map bare names) (map bare_term es) ≡ each_type_faults at d names es
-types_bare at d [] es = refl
-types_bare at d (x ∷ xs) [] = refl
-types_bare at d (x ∷ xs) (e ∷ es) = (λ i. one_type_bare at d x e i ++ types_bare at d xs es i)
+types_bare : (at : Scope) (d : Declaration) (place : Option Spot) (names : List Ident) (es : List Term)
+    → each_type_faults (bare_scope at) (bare_table d) place (map bare names) (map bare_term es) ≡ each_type_faults at d place names es
+types_bare at d place [] es = refl
+types_bare at d place (x ∷ xs) [] = refl
+types_bare at d place (x ∷ xs) (e ∷ es) = (λ i. one_type_bare at d place x e i ++ types_bare at d place xs es i)
 
 values_bare : (at : Scope) (d : Declaration) (names : List Ident) (es : List Term) (t : Ident)
     → value_list_faults (bare_scope at) (bare_table d) (map bare names) (map bare_term es) (bare t) ≡ value_list_faults at d names es t
-values_bare at d names es t = (λ i. count_bare names es t i ++ types_bare at d names es i)
+values_bare at d names es t = (λ i. count_bare names es t i ++ types_bare at d None names es i)
 
 all_values_bare : (at : Scope) (d : Declaration) (es : List Term) (t : Ident)
     → value_list_faults (bare_scope at) (bare_table d) (column_names (bare_table d)) (map bare_term es) (bare t) ≡ value_list_faults at d (column_names d) es t
 all_values_bare at d es t = ap (λ names. value_list_faults (bare_scope at) (bare_table d) names (map bare_term es) (bare t)) (columns_bare d) ∙ values_bare at d (column_names d) es t
 
+-- a table that draws its keys, and the columns but the key
+any_drawn_bare : (d : Declaration) (cs : List Column) → list_any (λ c. is_drawn c.merge && is_key (bare_table d) c.name) (map bare_column cs) ≡ list_any (λ c. is_drawn c.merge && is_key d c.name) cs
+any_drawn_bare d [] = refl
+any_drawn_bare d (c ∷ cs) = (λ i. (is_drawn c.merge && key_bare d c.name i) || any_drawn_bare d cs i)
+
+kind_bare : (d : Declaration) (act : Act) (t : Ident) → kind_faults (bare_table d) act (bare t) ≡ kind_faults d act t
+kind_bare d act t = (λ i. fault_if (not (kind_allows d.kind act && keys_allow (any_drawn_bare d d.columns i) act)) t.spot Kind)
+
+outside_bare : (d : Declaration) (names : List Ident) → filter (λ name. not (is_key (bare_table d) name)) (map bare names) ≡ map bare (filter (λ name. not (is_key d name)) names)
+outside_bare d [] = refl
+outside_bare d (x ∷ xs) = by (is_key (bare_table d) (bare x)) (is_key d x) (key_bare d x) (outside_bare d xs)
+  where
+    by : (b c : Bool) → b ≡ c → filter (λ name. not (is_key (bare_table d) name)) (map bare xs) ≡ map bare (filter (λ name. not (is_key d name)) xs)
+        → (if not b then bare x ∷ filter (λ name. not (is_key (bare_table d) name)) (map bare xs) else filter (λ name. not (is_key (bare_table d) name)) (map bare xs))
+        ≡ map bare (if not c then x ∷ filter (λ name. not (is_key d name)) xs else filter (λ name. not (is_key d name)) xs)
+    by true true e ih = ih
+    by false false e ih = ap (λ l. bare x ∷ l) ih
+    by true false e ih = absurd cc
+    by false true e ih = absurd cc
+
+drawn_bare : (at : Scope) (d : Declaration) (es : List Term) (t : Ident) → drawn_faults (bare_scope at) (bare_table d) (map bare_term es) (bare t) ≡ drawn_faults at d es t
+drawn_bare at d es t =
+    ap (λ names. count_faults names (map bare_term es) (bare t) ++ each_type_faults (bare_scope at) (bare_table d) (Some t.spot) names (map bare_term es))
+    (ap (filter (λ name. not (is_key (bare_table d) name))) (columns_bare d) ∙ outside_bare d (column_names d))
+    ∙ (λ i. count_bare (drawn_columns d) es t i ++ types_bare at d (Some t.spot) (drawn_columns d) es i)
+
 set_bare : (at : Scope) (d : Declaration) (set : Ident × Term) → set_faults (bare_scope at) (bare_table d) (bare_set set) ≡ set_faults at d set
-set_bare at d set = (λ i. no_column_bare d set.0 i ++ fault_if (key_bare d set.0 i) set.0.spot Typing ++ one_type_bare at d set.0 set.1 i)
+set_bare at d set = (λ i. no_column_bare d set.0 i ++ fault_if (key_bare d set.0 i) set.0.spot Typing ++ one_type_bare at d None set.0 set.1 i)
 
 sets_bare : (at : Scope) (t : Ident) (d : Declaration) (ss : List (Ident × Term)) → sets_faults (bare_scope at) (bare t) (bare_table d) (map bare_set ss) ≡ sets_faults at t d ss
 sets_bare at t d ss =
@@ -297,6 +330,7 @@ behind_bare at (Choose c ys ns) = refl
 behind_bare at (ForRows r t c body) = refl
 behind_bare at (ForEach x l body) = refl
 behind_bare at (Insert t vs) = refl
+behind_bare at (Fresh x t vs) = refl
 behind_bare at (Update t k ss) = refl
 behind_bare at (Remove t k) = refl
 behind_bare at (Abort n) = refl
@@ -318,19 +352,23 @@ command_bare at (ForRows r t c body) = (λ i. no_such_table_bare at.schema t i +
 command_bare at (ForEach x l body) = ap (λ m. walk_faults m (bare l)) (meaning_bare at l) ∙ walk_bare (meaning_of at l) l
 command_bare at (Insert t vs) =
     let own = at_table_bare at.schema t (λ d. kind_faults d acts.Insert (bare t) ++ value_list_faults (bare_scope at) d (column_names d) (map bare_term vs) (bare t))
-    (λ d. kind_faults d acts.Insert t ++ value_list_faults at d (column_names d) vs t) (λ d. ap (λ l. kind_faults d acts.Insert t ++ l) (all_values_bare at d vs t)) in
+    (λ d. kind_faults d acts.Insert t ++ value_list_faults at d (column_names d) vs t) (λ d. (λ i. kind_bare d acts.Insert t i ++ all_values_bare at d vs t i)) in
+    (λ i. own i ++ terms_bare at vs i)
+command_bare at (Fresh x t vs) =
+    let own = at_table_bare at.schema t (λ d. kind_faults d acts.Fresh (bare t) ++ drawn_faults (bare_scope at) d (map bare_term vs) (bare t))
+    (λ d. kind_faults d acts.Fresh t ++ drawn_faults at d vs t) (λ d. (λ i. kind_bare d acts.Fresh t i ++ drawn_bare at d vs t i)) in
     (λ i. own i ++ terms_bare at vs i)
 command_bare at (Update t k ss) =
     let own = at_table_bare at.schema t (λ d. kind_faults d acts.Update (bare t) ++ value_list_faults (bare_scope at) d d.key (map bare_term k) (bare t) ++ sets_faults (bare_scope at) (bare t) d (map bare_set ss))
     (λ d. kind_faults d acts.Update t ++ value_list_faults at d d.key k t ++ sets_faults at t d ss)
-    (λ d. (λ i. kind_faults d acts.Update t ++ values_bare at d d.key k t i ++ sets_bare at t d ss i)) in
+    (λ d. (λ i. kind_bare d acts.Update t i ++ values_bare at d d.key k t i ++ sets_bare at t d ss i)) in
     let names : repeats (map (λ (s : Ident × Term). s.0) (map bare_set ss)) ≡ repeats (map (λ (s : Ident × Term). s.0) ss) =
     ap repeats (map_same bare_set (λ (s : Ident × Term). s.0) (λ s. bare s.0) ss (λ s. refl) ∙ sym (map_map (λ (s : Ident × Term). s.0) bare ss)) ∙ repeats_bare (map (λ (s : Ident × Term). s.0) ss) in
     let values = flat_bare bare_set (λ s. term_faults (updating (bare_scope at) (bare t)) s.1) (λ s. term_faults (updating at t) s.1) ss (λ s. term_bare (updating at t) s.1) in
     (λ i. own i ++ terms_bare at k i ++ names i ++ values i)
 command_bare at (Remove t k) =
     let own = at_table_bare at.schema t (λ d. kind_faults d acts.Remove (bare t) ++ value_list_faults (bare_scope at) d d.key (map bare_term k) (bare t))
-    (λ d. kind_faults d acts.Remove t ++ value_list_faults at d d.key k t) (λ d. ap (λ l. kind_faults d acts.Remove t ++ l) (values_bare at d d.key k t)) in
+    (λ d. kind_faults d acts.Remove t ++ value_list_faults at d d.key k t) (λ d. (λ i. kind_bare d acts.Remove t i ++ values_bare at d d.key k t i)) in
     (λ i. own i ++ terms_bare at k i)
 command_bare at (Abort n) = refl
 command_bare at (Reply e) = term_bare at e
@@ -344,6 +382,7 @@ mutual
   inner_bare at (ForRows r t c body) = block_bare (knowing at r (Row t)) body
   inner_bare at (ForEach x l body) = block_bare (knowing at x Constant) body
   inner_bare at (Insert t vs) = refl
+  inner_bare at (Fresh x t vs) = refl
   inner_bare at (Update t k ss) = refl
   inner_bare at (Remove t k) = refl
   inner_bare at (Abort n) = refl
@@ -368,6 +407,7 @@ declared_bare (Choose c ys ns) = refl
 declared_bare (ForRows r t c body) = refl
 declared_bare (ForEach x l body) = refl
 declared_bare (Insert t vs) = refl
+declared_bare (Fresh x t vs) = refl
 declared_bare (Update t k ss) = refl
 declared_bare (Remove t k) = refl
 declared_bare (Abort n) = refl
@@ -382,6 +422,7 @@ mutual
   inner_statements_bare (ForRows r t c body) = statements_bare body
   inner_statements_bare (ForEach x l body) = statements_bare body
   inner_statements_bare (Insert t vs) = refl
+  inner_statements_bare (Fresh x t vs) = refl
   inner_statements_bare (Update t k ss) = refl
   inner_statements_bare (Remove t k) = refl
   inner_statements_bare (Abort n) = refl

@@ -8,7 +8,7 @@ use Rattle.sv_app.specs.declared.schemas.Ty.{Ty}
 use Rattle.sv_app.specs.declared.txns.Stmt.{Stmt}
 use Rattle.sv_app.specs.declared.txns.Txn.{Txn}
 use Rattle.sv_app.specs.Statements.{block_statements}
-use Rattle.sv_app.specs.Trees.{Then, Command, Declare, Assign, Fetch, Choose, ForRows, ForEach, Insert, Update, Remove, Abort, Reply, Transaction, command_of, block_of, block_from, transaction_of, transactions_of}
+use Rattle.sv_app.specs.Trees.{Then, Command, Declare, Assign, Fetch, Choose, ForRows, ForEach, Insert, Fresh, Update, Remove, Abort, Reply, Transaction, command_of, block_of, block_from, transaction_of, transactions_of}
 use Rattle.sv_app.specs.TxnConditions.{IsSmallTxn}
 use Rattle.sv_app.specs.TxnNames.{plain_name, declared_by, declares}
 use Rattle.sv_app.specs.TxnNumbers.{Naming, numbered_command, numbered_block}
@@ -29,6 +29,7 @@ one_each (Choose c ys ns) = omega arith
 one_each (ForRows r t c body) = omega arith
 one_each (ForEach x l body) = omega arith
 one_each (Insert t vs) = omega arith
+one_each (Fresh x t vs) = omega arith
 one_each (Update t k ss) = omega arith
 one_each (Remove t k) = omega arith
 one_each (Abort n) = omega arith

@@ -8,7 +8,7 @@ use Rattle.sv_app.specs.declared.schemas.Ty.{Ty}
 use Rattle.sv_app.specs.Acceptance.{IsAccepted}
 use Rattle.sv_app.specs.Schema.{Declaration}
 use Rattle.sv_app.specs.Statements.{block_statements}
-use Rattle.sv_app.specs.Trees.{Command, Declare, Assign, Fetch, Choose, ForRows, ForEach, Insert, Update, Remove, Abort, Reply, Transaction}
+use Rattle.sv_app.specs.Trees.{Command, Declare, Assign, Fetch, Choose, ForRows, ForEach, Insert, Fresh, Update, Remove, Abort, Reply, Transaction}
 use Rattle.sv_app.specs.TxnNames.{plain_name, declared_by, names_of}
 use Rattle.sv_app.specs.TxnNumbers.{Naming, naming, numbered_name, numbered_command, numbered_parameter, txn_names, numbered_txn, numbered_txns}
 use Rattle.sv_app.specs.TxnTyping.{block_faults, txn_faults}
@@ -37,6 +37,7 @@ own_name by (Choose c ys ns) = refl
 own_name by (ForRows r t c body) = refl
 own_name by (ForEach x l body) = refl
 own_name by (Insert t vs) = refl
+own_name by (Fresh x t vs) = refl
 own_name by (Update t k ss) = refl
 own_name by (Remove t k) = refl
 own_name by (Abort n) = refl

@@ -35,6 +35,7 @@ use Rattle.sv_app.specs.Trees.{
   ForRows,
   ForEach,
   Insert,
+  Fresh,
   Update,
   Remove,
   Abort,
@@ -139,6 +140,7 @@ mutual
       (λ i. ForRows (name_from by r i) (table_from by t i) (test i) (block_from by body i))
   command_from by (ForEach x l body) = (λ i. ForEach (name_from by x i) (name_from by l i) (block_from by body i))
   command_from by (Insert t vs) = (λ i. Insert (table_from by t i) (terms_from by vs i))
+  command_from by (Fresh x t vs) = (λ i. Fresh (name_from by x i) (table_from by t i) (terms_from by vs i))
   command_from by (Update t k ss) = (λ i. Update (table_from by t i) (terms_from by k i) (sets_from by t ss i))
   command_from by (Remove t k) = (λ i. Remove (table_from by t i) (terms_from by k i))
   command_from by (Abort n) = refl
@@ -197,6 +199,7 @@ mutual
       let test = option_same (numbered_test by) bare_test bare_test c (bare_tests by) in (λ i. ForRows (bare r) (bare t) (test i) (bare_blocks by body i))
   bare_commands by (ForEach x l body) = ap (ForEach (bare x) (bare l)) (bare_blocks by body)
   bare_commands by (Insert t vs) = ap (Insert (bare t)) (bare_term_lists by vs)
+  bare_commands by (Fresh x t vs) = ap (Fresh (bare x) (bare t)) (bare_term_lists by vs)
   bare_commands by (Update t k ss) =
       let sets = map_same (numbered_set (updating by t)) bare_set bare_set ss (λ s. ap (λ e. (bare s.0, e)) (bare_terms (updating by t) s.1)) in
       (λ i. Update (bare t) (bare_term_lists by k i) (sets i))
@@ -236,6 +239,7 @@ mutual
   inner_statements_numbered by (ForRows r t c body) = statements_numbered by body
   inner_statements_numbered by (ForEach x l body) = statements_numbered by body
   inner_statements_numbered by (Insert t vs) = refl
+  inner_statements_numbered by (Fresh x t vs) = refl
   inner_statements_numbered by (Update t k ss) = refl
   inner_statements_numbered by (Remove t k) = refl
   inner_statements_numbered by (Abort n) = refl
@@ -255,6 +259,7 @@ loop_numbered by (Choose c ys ns) = refl
 loop_numbered by (ForRows r t c body) = refl
 loop_numbered by (ForEach x l body) = refl
 loop_numbered by (Insert t vs) = refl
+loop_numbered by (Fresh x t vs) = refl
 loop_numbered by (Update t k ss) = refl
 loop_numbered by (Remove t k) = refl
 loop_numbered by (Abort n) = refl
@@ -268,6 +273,7 @@ declaration_numbered by (Choose c ys ns) = refl
 declaration_numbered by (ForRows r t c body) = refl
 declaration_numbered by (ForEach x l body) = refl
 declaration_numbered by (Insert t vs) = refl
+declaration_numbered by (Fresh x t vs) = refl
 declaration_numbered by (Update t k ss) = refl
 declaration_numbered by (Remove t k) = refl
 declaration_numbered by (Abort n) = refl
@@ -297,6 +303,7 @@ statement_numbered by (Choose c ys ns) k = tt
 statement_numbered by (ForRows r t c body) k = loops_numbered by body ∙ k
 statement_numbered by (ForEach x l body) k = loops_numbered by body ∙ k
 statement_numbered by (Insert t vs) k = let same : length (numbered_terms by vs) ≡ length vs = length-map vs (numbered_term by) in omega (arith, same, k)
+statement_numbered by (Fresh x t vs) k = tt
 statement_numbered by (Update t key ss) k =
     let same : length (map (numbered_set (updating by t)) ss) ≡ length ss = length-map ss (numbered_set (updating by t)) in
     (key_numbered by key k.0, omega (arith, same, k.1))
@@ -339,6 +346,7 @@ depths_numbered by (ForRows r t None body) = refl
 depths_numbered by (ForRows r t (Some c) body) = ap (λ n. n ∷ []) (test_depth_numbered by c)
 depths_numbered by (ForEach x l body) = refl
 depths_numbered by (Insert t vs) = term_depths_numbered by vs
+depths_numbered by (Fresh x t vs) = term_depths_numbered by vs
 depths_numbered by (Update t k ss) =
     let sets = map_same (numbered_set (updating by t)) (λ (s : Ident × Term). term_depth s.1) (λ (s : Ident × Term). term_depth s.1) ss (λ s. term_depth_numbered (updating by t) s.1) in
     (λ i. term_depths_numbered by k i ++ sets i)
@@ -359,6 +367,7 @@ mutual
   inner_depth_numbered by (ForRows r t c body) = block_depth_numbered by body
   inner_depth_numbered by (ForEach x l body) = block_depth_numbered by body
   inner_depth_numbered by (Insert t vs) = refl
+  inner_depth_numbered by (Fresh x t vs) = refl
   inner_depth_numbered by (Update t k ss) = refl
   inner_depth_numbered by (Remove t k) = refl
   inner_depth_numbered by (Abort n) = refl

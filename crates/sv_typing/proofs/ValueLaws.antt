@@ -1,5 +1,6 @@
 -- Values beside their columns, one by one from the front.
 use Rattle.std.proofs.Common.{◌≡◌, ℕ, zero, suc, ◌+◌, ◌<◌, ◌≤◌, List, [], ◌∷◌, ◌++◌, length, drop, get_or, refl, sym, ap, ◌∙◌, arith, map, Option}
+use Rattle.sv_value.specs.declared.spots.Spot.{Spot}
 use Rattle.sv_app.specs.declared.apps.Ident.{Ident}
 use Rattle.sv_app.specs.declared.refusals.Refusal.{Refusal}
 use Rattle.sv_app.specs.declared.txns.Expr.{Expr}
@@ -12,15 +13,15 @@ use Rattle.sv_typing.proofs.LookupLaws.{at_drop}
 use Rattle.sv_typing.proofs.NotedLaws.{noted_append}
 
 -- one more value was looked at
-pub one_value : {T : Type 0} (f : T → Ident) (at : Scope) (d : Declaration) (xs : List T) (es : List Expr) (i : ℕ) (x : T) (e : Expr) (held now goal : Option Refusal)
+pub one_value : {T : Type 0} (f : T → Ident) (at : Scope) (d : Declaration) (place : Option Spot) (xs : List T) (es : List Expr) (i : ℕ) (x : T) (e : Expr) (held now goal : Option Refusal)
     → i < length xs → x ≡ get_or xs i x → i < length es → e ≡ get_or es i e
-    → noted held (each_type_faults at d (map f (drop i xs)) (terms_of (drop i es))) ≡ goal → now ≡ noted held (type_faults at d (f x) (term_of e))
-    → noted now (each_type_faults at d (map f (drop (i + 1) xs)) (terms_of (drop (i + 1) es))) ≡ goal
-one_value f at d xs es i x e held now goal h is k has before step =
-    let more : List Refusal = each_type_faults at d (map f (drop (i + 1) xs)) (terms_of (drop (i + 1) es)) in
-    let split : noted held (each_type_faults at d (map f (drop i xs)) (terms_of (drop i es))) ≡ noted held (type_faults at d (f x) (term_of e) ++ more) =
+    → noted held (each_type_faults at d place (map f (drop i xs)) (terms_of (drop i es))) ≡ goal → now ≡ noted held (type_faults at d place (f x) (term_of e))
+    → noted now (each_type_faults at d place (map f (drop (i + 1) xs)) (terms_of (drop (i + 1) es))) ≡ goal
+one_value f at d place xs es i x e held now goal h is k has before step =
+    let more : List Refusal = each_type_faults at d place (map f (drop (i + 1) xs)) (terms_of (drop (i + 1) es)) in
+    let split : noted held (each_type_faults at d place (map f (drop i xs)) (terms_of (drop i es))) ≡ noted held (type_faults at d place (f x) (term_of e) ++ more) =
     rw (at_drop xs i x h is, at_drop es i e k has) refl in
-    ap (λ o. noted o more) step ∙ sym (noted_append held (type_faults at d (f x) (term_of e)) more) ∙ sym split ∙ before
+    ap (λ o. noted o more) step ∙ sym (noted_append held (type_faults at d place (f x) (term_of e)) more) ∙ sym split ∙ before
 
 past_end : {A : Type 0} (xs : List A) (i : ℕ) → length xs ≤ i → drop i xs ≡ []
 past_end [] zero h = refl
@@ -28,14 +29,14 @@ past_end [] (suc i) h = refl
 past_end (x ∷ xs) zero h = absurd (omega (arith, h))
 past_end (x ∷ xs) (suc i) h = past_end xs i (omega (arith, h))
 
-none_left : (at : Scope) (d : Declaration) (names : List Ident) (terms : List Term) → terms ≡ [] → each_type_faults at d names terms ≡ []
-none_left at d [] terms e = refl
-none_left at d (x ∷ xs) terms e = rw e refl
+none_left : (at : Scope) (d : Declaration) (place : Option Spot) (names : List Ident) (terms : List Term) → terms ≡ [] → each_type_faults at d place names terms ≡ []
+none_left at d place [] terms e = refl
+none_left at d place (x ∷ xs) terms e = rw e refl
 
 -- no value is left
-pub no_value : {T : Type 0} (f : T → Ident) (at : Scope) (d : Declaration) (xs : List T) (es : List Expr) (i : ℕ) (held goal : Option Refusal) → length es ≤ i
-    → noted held (each_type_faults at d (map f (drop i xs)) (terms_of (drop i es))) ≡ goal → held ≡ goal
-no_value f at d xs es i held goal h before = sym (ap (noted held) (none_left at d (map f (drop i xs)) _ (ap terms_of (past_end es i h)))) ∙ before
+pub no_value : {T : Type 0} (f : T → Ident) (at : Scope) (d : Declaration) (place : Option Spot) (xs : List T) (es : List Expr) (i : ℕ) (held goal : Option Refusal) → length es ≤ i
+    → noted held (each_type_faults at d place (map f (drop i xs)) (terms_of (drop i es))) ≡ goal → held ≡ goal
+no_value f at d place xs es i held goal h before = sym (ap (noted held) (none_left at d place (map f (drop i xs)) _ (ap terms_of (past_end es i h)))) ∙ before
 
 pub ruleset pairing = (one_value, no_value)
 

@@ -4,8 +4,8 @@ ghost use Rattle.sv_app.specs.declared.acts.Act.TheVariants as acts;
 ghost use Rattle.sv_app.specs.declared.apps.Ident.{Ident as IdentValue};
 ghost use Rattle.sv_app.specs.Lookups.{table_of as table_meant};
 ghost use Rattle.sv_app.specs.Schema.{schema_of, declaration_of};
-ghost use Rattle.sv_app.specs.Trees.{command_of, terms_of, sets_of, Term, Fetch, Insert, Update, Remove};
-ghost use Rattle.sv_app.specs.TxnTyping.{command_faults, value_list_faults, sets_faults, at_table, kind_faults, term_faults};
+ghost use Rattle.sv_app.specs.Trees.{command_of, terms_of, sets_of, Term, Fetch, Insert, Fresh, Update, Remove};
+ghost use Rattle.sv_app.specs.TxnTyping.{command_faults, value_list_faults, drawn_faults, sets_faults, at_table, kind_faults, term_faults};
 ghost use Rattle.sv_app.specs.Typing.{repeats};
 ghost use Rattle.sv_typing.specs.Noted.{noted};
 ghost use Rattle.sv_typing.specs.Standing.{scope_of};
@@ -15,7 +15,7 @@ use crate::firsts::First;
 use crate::lookups::table_of;
 use crate::scopes::Scope;
 use crate::seconds::note_all_repeats;
-use crate::values::{note_kind, note_sets, note_terms, note_values};
+use crate::values::{note_drawn, note_kind, note_sets, note_terms, note_values};
 use std::alloc::Global;
 use sv_app::{Act, Code, Expr, Ident, Table};
 use sv_value::NoMemory;
@@ -53,6 +53,29 @@ pub fn note_insert(first: &mut First, at: &Scope, name: &Ident, values: &[Expr])
         }
     }
     note_terms(first, at, values);
+}
+
+/// Notes what is wrong with the table and the values of a row whose key is drawn.
+#[tactic(auto, using(crate::proofs::NotedLaws::noting))]
+pub fn note_fresh(
+    alloc: Global,
+    first: &mut First,
+    at: &Scope,
+    var: &Ident,
+    name: &Ident,
+    values: &[Expr],
+) -> Result<(), NoMemory>
+    ensures { OnOk result (first.new.held ≡ noted first.old.held (command_faults (scope_of at.now) (Fresh var.now name.now (terms_of values.now)))) }
+{
+    match table_of(at.tables, name) {
+        None => first.note_if(true, name.spot, Code::Unknown),
+        Some(table) => {
+            note_kind(first, table, Act::Fresh, name);
+            note_drawn(alloc, first, at, table, values, name)?;
+        }
+    }
+    note_terms(first, at, values);
+    Ok(())
 }
 
 /// Notes what is wrong with a remove.

@@ -2,14 +2,15 @@ ghost use Rattle.std.specs.Prelude.{◌≡◌};
 ghost use Rattle.std.specs.List.{flat_map};
 ghost use Rattle.sv_app.specs.declared.refusals.Code.TheVariants.{Typing};
 ghost use Rattle.sv_app.specs.Schema.{declaration_of};
-ghost use Rattle.sv_app.specs.Typing.{fault_if, no_column, another_key, key_faults, column_faults, is_merged_wrong};
+ghost use Rattle.sv_app.specs.Typing.{fault_if, no_column, another_key, key_faults, column_faults, is_only_key, is_misplaced, is_merged_wrong};
+ghost use Rattle.sv_app.specs.Kinds.{is_annotated};
 ghost use Rattle.sv_typing.specs.Noted.{noted};
 
 use crate::firsts::First;
 use crate::lookups::{column_of, is_key};
-use crate::named::note_repeats;
-use crate::types::{has_merge_kind, is_numdelta, is_text};
-use sv_app::{Code, Column, Ident, Table};
+use crate::named::{is_named, note_repeats};
+use crate::types::{is_int, is_text};
+use sv_app::{Code, Column, Ident, Kind, Merge, Table};
 
 /// Notes a name that is no column of the table.
 pub fn note_no_column(first: &mut First, table: &Table, name: &Ident)
@@ -46,12 +47,36 @@ pub fn note_keys(first: &mut First, table: &Table)
     note_unknown_keys(first, table);
 }
 
+/// Whether the key names this column and no other.
+fn is_only_key(table: &Table, column: &Ident) -> bool
+    ensures { result ≡ is_only_key (declaration_of table.now) column.now }
+{
+    is_key(table, column) && table.key.iter().all(|name| is_named(name, column))
+}
+
+fn is_annotated(kind: Kind) -> bool
+    ensures { result ≡ is_annotated kind }
+{
+    match kind {
+        Kind::Plain => false,
+        Kind::Aoset | Kind::Uoset | Kind::Auset | Kind::Arset => true,
+    }
+}
+
 /// Whether the merge kind of the column isn't allowed.
 fn is_merged_wrong(table: &Table, column: &Column) -> bool
     ensures { result ≡ is_merged_wrong (declaration_of table.now) column.now }
 {
-    (has_merge_kind(column.merge) && is_key(table, &column.name))
-        || (is_numdelta(column.merge) && is_text(column.ty))
+    match column.merge {
+        Merge::Plain => false,
+        Merge::Lww => is_key(table, &column.name),
+        Merge::NumDelta => is_key(table, &column.name) || is_text(column.ty),
+        Merge::Fresh => {
+            !(is_int(column.ty)
+                && is_only_key(table, &column.name)
+                && is_annotated(table.kind))
+        }
+    }
 }
 
 fn note_merges(first: &mut First, table: &Table)

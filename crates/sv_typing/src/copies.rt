@@ -3,7 +3,7 @@ ghost use Rattle.std.specs.Prelude.{Some as some};
 ghost use Rattle.sv_app.specs.declared.schemas.Column.{Column as ColumnValue};
 ghost use Rattle.sv_app.specs.Conditions.{KeepsLimits};
 ghost use Rattle.sv_app.specs.Schema.{schema_of};
-ghost use Rattle.sv_app.specs.Trees.{command_of, block_of, term_of, terms_of, sets_of, Declare, Assign, Fetch, Insert, Update, Remove, Reply};
+ghost use Rattle.sv_app.specs.Trees.{command_of, block_of, term_of, terms_of, sets_of, Declare, Assign, Fetch, Insert, Fresh, Update, Remove, Reply};
 ghost use Rattle.sv_app.specs.TxnNumbers.{columns_of, numbered_command, numbered_block};
 ghost use Rattle.sv_typing.specs.Standing.{naming_of, IsSmall};
 
@@ -62,6 +62,24 @@ fn fill_insert(alloc: Global, by: &Naming, table: &Ident, values: &[Expr]) -> Re
 {
     let values = fill_exprs(alloc, by, values)?;
     Ok(Stmt::Insert {
+        table: number_table(by.tables, table),
+        values,
+    })
+}
+
+fn fill_fresh(
+    alloc: Global,
+    by: &Naming,
+    var: &Ident,
+    table: &Ident,
+    values: &[Expr],
+) -> Result<Stmt, NoMemory>
+    requires { IsSmall (naming_of by.now) }
+    ensures { IfOk result (λ copy. command_of copy ≡ numbered_command (naming_of by.now) (Fresh var.now table.now (terms_of values.now))) }
+{
+    let values = fill_exprs(alloc, by, values)?;
+    Ok(Stmt::Fresh {
+        var: number_name(by, var),
         table: number_table(by.tables, table),
         values,
     })
@@ -167,6 +185,7 @@ fn fill_stmt(alloc: Global, by: &Naming, stmt: &Stmt) -> Result<Stmt, NoMemory>
             Ok(each(number_name(by, &var), number_name(by, &list), body))
         }
         Parts::Insert { table, values } => fill_insert(alloc, by, &table, values),
+        Parts::Fresh { var, table, values } => fill_fresh(alloc, by, &var, &table, values),
         Parts::Update { table, key, sets } => fill_update(alloc, by, &table, key, sets),
         Parts::Remove { table, key } => fill_remove(alloc, by, &table, key),
         Parts::Abort { code } => Ok(Stmt::Abort { code }),

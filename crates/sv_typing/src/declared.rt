@@ -25,8 +25,14 @@ fn put_own(names: &mut Vec<Declared>, stmt: &Stmt) -> Result<(), NoMemory>
         Parts::Let { var, .. } => put_name(names, var, None),
         Parts::Get { row, table, .. } => put_name(names, row, Some(table)),
         Parts::Rows { row, table, .. } => put_name(names, row, Some(table)),
-        Parts::Each { var, .. } => put_name(names, var, None),
-        _ => Ok(()),
+        Parts::Each { var, .. } | Parts::Fresh { var, .. } => put_name(names, var, None),
+        Parts::Assign { .. }
+        | Parts::If { .. }
+        | Parts::Insert { .. }
+        | Parts::Update { .. }
+        | Parts::Remove { .. }
+        | Parts::Abort { .. }
+        | Parts::Reply(_) => Ok(()),
     }
 }
 

@@ -10,7 +10,7 @@ ghost use Rattle.sv_typing.specs.Standing.{scope_of, in_block, knowing as knowin
 ghost use Rattle.sv_app.specs.Scopes.{knowing};
 ghost use Rattle.sv_app.specs.declared.names.Meaning.TheVariants.{Row};
 
-use crate::changes::{note_fetch, note_insert, note_remove, note_update};
+use crate::changes::{note_fetch, note_fresh, note_insert, note_remove, note_update};
 use crate::expressions::{note_condition, note_term, note_test};
 use crate::firsts::First;
 use crate::scopes::{Scope, meaning_of, with_name};
@@ -107,6 +107,9 @@ fn note_stmt(alloc: Global, first: &mut First, at: &Scope, stmt: &Stmt) -> Resul
         } => return note_rows(alloc, first, at, &row, &table, cond),
         Parts::Each { list, .. } => note_walk(first, meaning_of(at, &list), &list),
         Parts::Insert { table, values } => note_insert(first, at, &table, values),
+        Parts::Fresh { var, table, values } => {
+            return note_fresh(alloc, first, at, &var, &table, values);
+        }
         Parts::Update { table, key, sets } => {
             return note_update(alloc, first, at, &table, key, sets);
         }
@@ -150,7 +153,19 @@ fn declared_by(at: &Scope, stmt: &Stmt) -> Option<Known>
             name: row,
             meaning: Meaning::Row(table),
         }),
-        _ => None,
+        Parts::Fresh { var, .. } => Some(Known {
+            name: var,
+            meaning: Meaning::Constant,
+        }),
+        Parts::Assign { .. }
+        | Parts::If { .. }
+        | Parts::Rows { .. }
+        | Parts::Each { .. }
+        | Parts::Insert { .. }
+        | Parts::Update { .. }
+        | Parts::Remove { .. }
+        | Parts::Abort { .. }
+        | Parts::Reply(_) => None,
     }
 }
 

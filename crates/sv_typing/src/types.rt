@@ -1,5 +1,6 @@
 ghost use Rattle.std.specs.Prelude.{◌≡◌};
-ghost use Rattle.sv_app.specs.Typing.{is_text, is_int, is_same_type, has_merge_kind, is_numdelta};
+ghost use Rattle.sv_app.specs.Typing.{is_text, is_int, is_same_type, is_numdelta};
+ghost use Rattle.sv_app.specs.Kinds.{is_drawn};
 
 use sv_app::{Merge, Ty};
 
@@ -7,6 +8,12 @@ pub fn is_text(ty: Ty) -> bool
     ensures { result ≡ is_text ty }
 {
     matches!(ty, Ty::Text)
+}
+
+pub fn is_int(ty: Ty) -> bool
+    ensures { result ≡ is_int ty }
+{
+    matches!(ty, Ty::Int)
 }
 
 pub fn is_same_type(ty: Ty, other: Ty) -> bool
@@ -19,10 +26,10 @@ pub fn is_same_type(ty: Ty, other: Ty) -> bool
     }
 }
 
-pub fn has_merge_kind(merge: Merge) -> bool
-    ensures { result ≡ has_merge_kind merge }
+pub fn is_drawn(merge: Merge) -> bool
+    ensures { result ≡ is_drawn merge }
 {
-    !matches!(merge, Merge::Plain)
+    matches!(merge, Merge::Fresh)
 }
 
 pub fn is_numdelta(merge: Merge) -> bool

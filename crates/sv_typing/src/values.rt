@@ -1,12 +1,12 @@
-ghost use Rattle.std.specs.Prelude.{◌≡◌, map};
+ghost use Rattle.std.specs.Prelude.{◌≡◌, ◌&&◌, IfOk, OnOk, map};
 ghost use Rattle.std.specs.List.{flat_map};
 ghost use Rattle.std.specs.Option.{option_map, is_none};
-ghost use Rattle.sv_app.specs.Kinds.{kind_allows};
+ghost use Rattle.sv_app.specs.Kinds.{kind_allows, keys_allow, is_drawn, is_fresh, allows};
 ghost use Rattle.sv_app.specs.Lookups.{column_of as column_meant, table_of as table_meant};
 ghost use Rattle.sv_app.specs.Schema.{declaration_of, schema_of};
 ghost use Rattle.sv_app.specs.Scopes.{updating};
 ghost use Rattle.sv_app.specs.Trees.{term_of, terms_of, sets_of};
-ghost use Rattle.sv_app.specs.TxnTyping.{all_term_faults, no_table, kind_faults, count_faults, type_faults, each_type_faults, value_list_faults, set_faults, sets_faults};
+ghost use Rattle.sv_app.specs.TxnTyping.{all_term_faults, no_table, place_for, kind_faults, count_faults, type_faults, each_type_faults, value_list_faults, drawn_columns, drawn_faults, set_faults, sets_faults};
 ghost use Rattle.sv_typing.specs.Noted.{noted};
 ghost use Rattle.sv_typing.specs.Standing.{scope_of};
 
@@ -18,7 +18,10 @@ use crate::named::Named;
 use crate::references::is_no_table;
 use crate::scopes::Scope;
 use crate::terms::{are_apart, spot_of, type_in_table, type_of};
+use crate::types::is_drawn;
+use std::alloc::Global;
 use sv_app::{Act, Code, Expr, Ident, Kind, Table};
+use sv_value::{NoMemory, Spot};
 
 /// Notes what is wrong with these expressions.
 #[tactic(auto, using(crate::proofs::NotedLaws::looping))]
@@ -37,33 +40,59 @@ pub fn note_no_table(first: &mut First, tables: &[Table], name: &Ident)
     first.note_if(is_no_table(tables, name), name.spot, Code::Unknown);
 }
 
-fn allows(kind: Kind, act: Act) -> bool
+fn kind_allows(kind: Kind, act: Act) -> bool
     ensures { result ≡ kind_allows kind act }
 {
     match kind {
         Kind::Plain | Kind::Arset => match act {
-            Act::Insert | Act::Update | Act::Remove => true,
+            Act::Insert | Act::Fresh | Act::Update | Act::Remove => true,
         },
         Kind::Aoset => match act {
-            Act::Insert => true,
+            Act::Insert | Act::Fresh => true,
             Act::Update | Act::Remove => false,
         },
         Kind::Uoset => match act {
             Act::Update => true,
-            Act::Insert | Act::Remove => false,
+            Act::Insert | Act::Fresh | Act::Remove => false,
         },
         Kind::Auset => match act {
-            Act::Insert | Act::Update => true,
+            Act::Insert | Act::Fresh | Act::Update => true,
             Act::Remove => false,
         },
     }
 }
 
-/// Notes a change that the table's kind doesn't allow.
+/// Whether the table draws its keys.
+fn is_fresh(table: &Table) -> bool
+    ensures { result ≡ is_fresh (declaration_of table.now) }
+{
+    table
+        .columns
+        .iter()
+        .any(|column| is_drawn(column.merge) && is_key(table, &column.name))
+}
+
+fn keys_allow(fresh: bool, act: Act) -> bool
+    ensures { result ≡ keys_allow fresh act }
+{
+    match act {
+        Act::Insert => !fresh,
+        Act::Fresh => fresh,
+        Act::Update | Act::Remove => true,
+    }
+}
+
+fn allows(table: &Table, act: Act) -> bool
+    ensures { result ≡ allows (declaration_of table.now) act }
+{
+    kind_allows(table.kind, act) && keys_allow(is_fresh(table), act)
+}
+
+/// Notes a change that the table doesn't allow.
 pub fn note_kind(first: &mut First, table: &Table, act: Act, name: &Ident)
     ensures { first.new.held ≡ noted first.old.held (kind_faults (declaration_of table.now) act name.now) }
 {
-    first.note_if(!allows(table.kind, act), name.spot, Code::Kind);
+    first.note_if(!allows(table, act), name.spot, Code::Kind);
 }
 
 /// Notes a wrong number of keys or values.
@@ -73,28 +102,51 @@ fn note_count<T: Named>(first: &mut First, columns: &[T], exprs: &[Expr], name: 
     first.note_if(columns.len() != exprs.len(), name.spot, Code::Typing);
 }
 
-/// Notes a value of another type than the column's.
-fn note_type(first: &mut First, at: &Scope, table: &Table, column: &Ident, expr: &Expr)
-    ensures { first.new.held ≡ noted first.old.held (type_faults (scope_of at.now) (declaration_of table.now) column.now (term_of expr.now)) }
+fn place_for(place: Option<Spot>, expr: &Expr) -> Spot
+    ensures { result ≡ place_for place (term_of expr.now) }
+{
+    match place {
+        None => spot_of(expr),
+        Some(spot) => spot,
+    }
+}
+
+/// Notes a value of another type than the column's, at that place if there is one.
+fn note_type(
+    first: &mut First,
+    at: &Scope,
+    table: &Table,
+    place: Option<Spot>,
+    column: &Ident,
+    expr: &Expr,
+)
+    ensures { first.new.held ≡ noted first.old.held (type_faults (scope_of at.now) (declaration_of table.now) place column.now (term_of expr.now)) }
 {
     first.note_if(
         are_apart(type_in_table(table, column), type_of(at, expr)),
-        spot_of(expr),
+        place_for(place, expr),
         Code::Typing,
     );
 }
 
 /// Notes each value of another type than its column's.
 #[tactic(auto, using(crate::proofs::ValueLaws::pairing))]
-fn note_types<T: Named>(first: &mut First, at: &Scope, table: &Table, columns: &[T], exprs: &[Expr])
-    ensures { first.new.held ≡ noted first.old.held (each_type_faults (scope_of at.now) (declaration_of table.now) (map T.ident columns.now) (terms_of exprs.now)) }
+fn note_types<T: Named>(
+    first: &mut First,
+    at: &Scope,
+    table: &Table,
+    place: Option<Spot>,
+    columns: &[T],
+    exprs: &[Expr],
+)
+    ensures { first.new.held ≡ noted first.old.held (each_type_faults (scope_of at.now) (declaration_of table.now) place (map T.ident columns.now) (terms_of exprs.now)) }
 {
-    for place in 0..columns.len() {
-        if exprs.len() <= place {
+    for number in 0..columns.len() {
+        if exprs.len() <= number {
             return;
         }
-        let column = columns[place].ident();
-        note_type(first, at, table, &column, &exprs[place]);
+        let column = columns[number].ident();
+        note_type(first, at, table, place, &column, &exprs[number]);
     }
 }
 
@@ -111,7 +163,38 @@ pub fn note_values<T: Named>(
     ensures { first.new.held ≡ noted first.old.held (value_list_faults (scope_of at.now) (declaration_of table.now) (map T.ident columns.now) (terms_of exprs.now) name.now) }
 {
     note_count(first, columns, exprs, name);
-    note_types(first, at, table, columns, exprs);
+    note_types(first, at, table, None, columns, exprs);
+}
+
+/// The columns but the key.
+fn drawn_columns(alloc: Global, table: &Table) -> Result<Vec<Ident>, NoMemory>
+    ensures { IfOk result (λ names. names.items ≡ drawn_columns (declaration_of table.now)) }
+{
+    let mut names = Vec::new(alloc);
+    for column in &table.columns {
+        if !is_key(table, &column.name) {
+            names.push(column.name)?;
+        }
+    }
+    Ok(names)
+}
+
+/// Notes what is wrong with the values of a row whose key is drawn.
+#[tactic(auto, using(crate::proofs::NotedLaws::noting, crate::proofs::NotedLaws::map_same))]
+pub fn note_drawn(
+    alloc: Global,
+    first: &mut First,
+    at: &Scope,
+    table: &Table,
+    exprs: &[Expr],
+    name: &Ident,
+) -> Result<(), NoMemory>
+    ensures { OnOk result (first.new.held ≡ noted first.old.held (drawn_faults (scope_of at.now) (declaration_of table.now) (terms_of exprs.now) name.now)) }
+{
+    let columns = drawn_columns(alloc, table)?;
+    note_count(first, &columns, exprs, name);
+    note_types(first, at, table, Some(name.spot), &columns, exprs);
+    Ok(())
 }
 
 #[tactic(auto, using(crate::proofs::NotedLaws::noting))]
@@ -120,7 +203,7 @@ fn note_set(first: &mut First, at: &Scope, table: &Table, column: &Ident, expr: 
 {
     note_no_column(first, table, column);
     first.note_if(is_key(table, column), column.spot, Code::Typing);
-    note_type(first, at, table, column, expr);
+    note_type(first, at, table, None, column, expr);
 }
 
 /// Notes what is wrong with the columns that an update sets, and with the types of their values.
