@@ -1,5 +1,6 @@
 pub mod AcceptedLaws
 pub mod DrawLaws
+pub mod FreshLaws
 pub mod ListLaws
 pub mod PlaceLaws
 pub mod SchemaLaws

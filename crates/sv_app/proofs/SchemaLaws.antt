@@ -15,7 +15,7 @@ use Rattle.sv_app.specs.Lookups.{is_named, column_of, table_of, is_key, place_of
 use Rattle.sv_app.specs.Numbers.{numbered_in, numbered_table}
 use Rattle.sv_app.specs.Schema.{Declaration}
 use Rattle.sv_app.specs.Symbols.{is_key_column}
-use Rattle.sv_app.specs.Typing.{fault_if, has_merge_kind, is_numdelta, is_text, is_merged_wrong, no_key, another_key, repeats, no_column, key_faults, column_faults, rule_faults}
+use Rattle.sv_app.specs.Typing.{fault_if, is_text, is_misplaced, is_merged_wrong, no_key, another_key, repeats, no_column, key_faults, column_faults, rule_faults}
 use Rattle.sv_app.proofs.AcceptedLaws.{front_none, back_none, each_none, no_fault, table_right, columns_right}
 use Rattle.sv_app.proofs.ListLaws.{any_at, find_some}
 use Rattle.sv_app.proofs.TestLaws.{or_left, test_same}
@@ -144,7 +144,7 @@ module _ (schema : List Declaration) (accepted : AcceptedSchema schema) where
       → flat_map (λ name. no_column t name) t.key ≡ []
   names_right number t at = back_none (no_key t ++ another_key t t.second_key ++ repeats t.key) (flat_map (λ name. no_column t name) t.key) (key_right number t at)
 
-  key_numbered : (number : ℕ) (t : Declaration) → slice_get schema number ≡ Some t
+  pub key_numbered : (number : ℕ) (t : Declaration) → slice_get schema number ≡ Some t
       → map (numbered_in (column_names t)) t.key ≡ t.key
   key_numbered number t at = ap (λ (d : Declaration). d.key) (same_at (numbered_table schema) schema number t accepted.names at)
 
@@ -158,8 +158,7 @@ module _ (schema : List Declaration) (accepted : AcceptedSchema schema) where
   pub key_plain : (number : ℕ) (t : Declaration) (c : ℕ) (column : Column) → slice_get schema number ≡ Some t
       → slice_get t.columns c ≡ Some column → is_key_column t.key c ≡ true → column.merge ≢ NumDelta
   key_plain number t c column at declared inside is =
-      let both : true ≡ false = (λ i. has_merge_kind (sym is i) && sym key_name i)
-      ∙ or_left (has_merge_kind column.merge && is_key t column.name) (is_numdelta column.merge && is_text column.ty) right_column in cc
+      let both : true ≡ false = sym key_name ∙ or_left (is_key t column.name) (is_text column.ty) (subst (λ merge. is_misplaced t column merge ≡ false) is right_column) in cc
     where
       k : KeyName t.key c
       k = key_name_at t.key c inside

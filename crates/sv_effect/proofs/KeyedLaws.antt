@@ -130,6 +130,7 @@ zero_cell table key k (x ∷ columns) (suc n) column e =
 
 pub value_from : (merge : Merge) (v : Val) → merge ≢ merges.NumDelta → value_of (cell_from merge v) ≡ got_of v
 value_from merges.Plain v apart = refl
+value_from merges.Fresh v apart = refl
 value_from merges.Lww v apart = refl
 value_from merges.NumDelta v apart = absurd (apart refl)
 
