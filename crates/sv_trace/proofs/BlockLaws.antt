@@ -4,7 +4,7 @@ use Rattle.sv_app.specs.declared.apps.Ident.{Ident}
 use Rattle.sv_app.specs.declared.names.Meaning.{Meaning}
 use Rattle.sv_app.specs.Paths.{Way, Path, Leads, then_lead, command_path, block_path}
 use Rattle.sv_app.specs.Scopes.{Scope, knowing}
-use Rattle.sv_app.specs.Trees.{Command, Declare, Assign, Fetch, Choose, ForRows, ForEach, Insert, Update, Remove, Abort, Reply, Block, Finish, Then}
+use Rattle.sv_app.specs.Trees.{Command, Declare, Assign, Fetch, Choose, ForRows, ForEach, Insert, Fresh, Update, Remove, Abort, Reply, Block, Finish, Then}
 use Rattle.sv_app.specs.TxnTyping.{behind}
 use Rattle.sv_effect.specs.Run.{Stand, with_scope}
 use Rattle.sv_effect.specs.RunValues.{Progress, Scope as Values}
@@ -28,6 +28,7 @@ holds_before f at (Choose test ys ns) st holds = holds
 holds_before f at (ForRows r t test body) st holds = holds
 holds_before f at (ForEach x l body) st holds = holds
 holds_before f at (Insert t es) st holds = holds
+holds_before f at (Fresh x t es) st holds = holds_fewer f at x _ st holds
 holds_before f at (Update t k sets) st holds = holds
 holds_before f at (Remove t k) st holds = holds
 holds_before f at (Abort n) st holds = holds
@@ -41,6 +42,7 @@ outside_behind at (Choose test ys ns) outside = outside
 outside_behind at (ForRows r t test body) outside = outside
 outside_behind at (ForEach x l body) outside = outside
 outside_behind at (Insert t es) outside = outside
+outside_behind at (Fresh x t es) outside = outside
 outside_behind at (Update t k sets) outside = outside
 outside_behind at (Remove t k) outside = outside
 outside_behind at (Abort n) outside = outside

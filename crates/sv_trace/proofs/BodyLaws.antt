@@ -1,4 +1,7 @@
 -- The body of an accepted transaction: its statements read what may be used, and their values are of the types of what they are put into.
+use Rattle.sv_app.proofs.ListLaws.{map_map}
+use Rattle.sv_trace.proofs.WriteLaws.{from_start}
+use Rattle.sv_effect.specs.RunChanges.{outside_key}
 use Rattle.std.proofs.Common.{◌≡◌, ◌∙◌, ℕ, suc, ◌≤◌, ◌==◌, not, Bool, true, false, List, [], ◌∷◌, ◌++◌, length, map, Option, Some, None, slice_get, refl, sym, ap, subst, arith}
 use Rattle.std.specs.List.{flat_map}
 use Rattle.std.specs.Option.{option_map, is_none}
@@ -27,20 +30,21 @@ use Rattle.sv_app.specs.Scopes as scopes
 use Rattle.sv_app.specs.Slots.{item}
 use Rattle.sv_app.specs.TermTypes as terms
 use Rattle.sv_app.specs.TermTypes.{spot_of, are_apart}
-use Rattle.sv_app.specs.Trees.{Term, Command, Declare, Assign, Fetch, Choose, ForRows, ForEach, Insert, Update, Remove, Abort, Reply, Block, Finish, Then}
+use Rattle.sv_app.specs.Trees.{Term, Command, Declare, Assign, Fetch, Choose, ForRows, ForEach, Insert, Fresh, Update, Remove, Abort, Reply, Block, Finish, Then}
 use Rattle.sv_app.specs.TxnNames.{plain_name, row_name, declares}
 use Rattle.sv_app.specs.TxnNames as txn_names
 use Rattle.sv_app.specs.TxnNumbers.{numbered_name, numbered_term, numbered_terms, numbered_test, numbered_set, numbered_table_name, numbered_command, numbered_block, numbered_parameter, numbered_txn}
 use Rattle.sv_app.specs.TxnNumbers as numbers
-use Rattle.sv_app.specs.TxnTyping.{at_table, no_table, kind_faults, count_faults, type_faults, each_type_faults, value_list_faults, set_faults, sets_faults, assignment_faults, type_if_right, declared_type, behind, command_faults, inner_faults, block_faults, term_faults, all_term_faults, condition_faults}
+use Rattle.sv_app.specs.TxnTyping.{at_table, no_table, kind_faults, count_faults, place_for, type_faults, each_type_faults, value_list_faults, drawn_columns, drawn_faults, set_faults, sets_faults, assignment_faults, type_if_right, declared_type, behind, command_faults, inner_faults, block_faults, term_faults, all_term_faults, condition_faults}
 use Rattle.sv_app.specs.Typing.{fault_if, repeats, no_column, is_same_type}
 use Rattle.sv_app.specs.Units.{Loop, command_loops, block_loops, units, loop_variables, unit_of}
 use Rattle.sv_app.proofs.AcceptedLaws.{front_none, back_none, no_fault}
-use Rattle.sv_trace.specs.Standing.{Frame, names_in, Allows, AreOfColumns, SetsSuit, TypeIs, TableIs, Suits, BlockSuits, AllRead, IsValue, Means}
+use Rattle.sv_trace.specs.Standing.{Frame, names_in, Allows, AreOfColumns, SetsSuit, TypeIs, TableIs, Suits, BlockSuits, AllRead, IsValue, Means, AreDrawn}
 use Rattle.sv_trace.proofs.DeclareLaws.{command_declares, block_declares, after, after_append, not_before, HereFrom, here_split, agree_then, agree_fewer, here_number, here_table, block_stays}
+use Rattle.sv_trace.proofs.DrawnLaws.{drawn_names, outside_at}
 use Rattle.sv_trace.proofs.NamingLaws.{all, in_update, Agree, IsTable, MeaningIs, KnownIs, AllKnown, known_more, UpdatedIs, TermIs, term_is, terms_read, test_reads, bad_fault, found}
 use Rattle.sv_app.proofs.SchemaLaws.{table_named, column_named, own_first, columns_once}
-use Rattle.sv_trace.proofs.SlotLaws.{item_here}
+use Rattle.sv_trace.proofs.SlotLaws.{at_mapped, item_here}
 use Rattle.sv_trace.proofs.UnitLaws.{Each, each_left, each_right}
 use Rattle.sv_trace.proofs.UpdateLaws.{same_table}
 
@@ -107,6 +111,7 @@ module _ (f : Frame) (accepted : AcceptedSchema f.schema) (once : repeats (txn_n
   scope_is known (ForRows r t test body) = refl
   scope_is known (ForEach x l body) = refl
   scope_is known (Insert t es) = refl
+  scope_is known (Fresh x t es) = refl
   scope_is known (Update t k sets) = refl
   scope_is known (Remove t k) = refl
   scope_is known (Abort n) = refl
@@ -120,21 +125,21 @@ module _ (f : Frame) (accepted : AcceptedSchema f.schema) (once : repeats (txn_n
   plain_terms k known es is right own = terms_read f k known None [] 0 is tt es right own
 
   -- the values of an insert
-  values_typed : (k : ℕ) (known : List Known) (d : Declaration) (columns : List Column) (es : List Term) → AllKnown f k known → ((j : ℕ) (c : Column) → slice_get columns j ≡ Some c → column_of d c.name ≡ Some c)
-      → length columns ≡ length es → each_type_faults (at known) d (map (λ (c : Column). c.name) columns) es ≡ [] → all_term_faults (at known) es ≡ [] → numbered_terms (all f) es ≡ es
+  values_typed : (k : ℕ) (known : List Known) (d : Declaration) (place : Option Spot) (columns : List Column) (es : List Term) → AllKnown f k known → ((j : ℕ) (c : Column) → slice_get columns j ≡ Some c → column_of d c.name ≡ Some c)
+      → length columns ≡ length es → each_type_faults (at known) d place (map (λ (c : Column). c.name) columns) es ≡ [] → all_term_faults (at known) es ≡ [] → numbered_terms (all f) es ≡ es
       → map (λ e. type_of f.schema last_names 0 e) es ≡ map (λ (c : Column). c.ty) columns
-  values_typed k known d [] [] is columns_at_names length_is right reads own = refl
-  values_typed k known d [] (e ∷ es) is columns_at_names length_is right reads own = absurd (omega (arith, length_is))
-  values_typed k known d (c ∷ columns) [] is columns_at_names length_is right reads own = absurd (omega (arith, length_is))
-  values_typed k known d (c ∷ columns) (e ∷ es) is columns_at_names length_is right reads own =
+  values_typed k known d place [] [] is columns_at_names length_is right reads own = refl
+  values_typed k known d place [] (e ∷ es) is columns_at_names length_is right reads own = absurd (omega (arith, length_is))
+  values_typed k known d place (c ∷ columns) [] is columns_at_names length_is right reads own = absurd (omega (arith, length_is))
+  values_typed k known d place (c ∷ columns) (e ∷ es) is columns_at_names length_is right reads own =
       let names : List Ident = map (λ (x : Column). x.name) columns in
       let one : numbered_term (all f) e ≡ e = cc in
       let rest : numbered_terms (all f) es ≡ es = cc in
       let term = plain_term k known e is (front_none (term_faults (at known) e) (all_term_faults (at known) es) reads) one in
       let column : option_map (λ (x : Column). x.ty) (column_of d c.name) ≡ Some c.ty = ap (λ o. option_map (λ (x : Column). x.ty) o) (columns_at_names 0 c refl) in
-      let same : c.ty ≡ type_of f.schema last_names 0 e = not_apart (option_map (λ (x : Column). x.ty) (column_of d c.name)) (terms.type_of (at known) e) c.ty (type_of f.schema last_names 0 e) (spot_of e) column term.type
-      (front_none (type_faults (at known) d c.name e) (each_type_faults (at known) d names es) right) in
-      let more = values_typed k known d columns es is (λ j. columns_at_names (suc j)) (omega (arith, length_is)) (back_none (type_faults (at known) d c.name e) (each_type_faults (at known) d names es) right)
+      let same : c.ty ≡ type_of f.schema last_names 0 e = not_apart (option_map (λ (x : Column). x.ty) (column_of d c.name)) (terms.type_of (at known) e) c.ty (type_of f.schema last_names 0 e) (place_for place e) column term.type
+      (front_none (type_faults (at known) d place c.name e) (each_type_faults (at known) d place names es) right) in
+      let more = values_typed k known d place columns es is (λ j. columns_at_names (suc j)) (omega (arith, length_is)) (back_none (type_faults (at known) d place c.name e) (each_type_faults (at known) d place names es) right)
       (back_none (term_faults (at known) e) (all_term_faults (at known) es) reads) rest in
       λ i. sym same i ∷ more i
 
@@ -143,9 +148,28 @@ module _ (f : Frame) (accepted : AcceptedSchema f.schema) (once : repeats (txn_n
   of_columns k known t is es knowns right reads own d at_number =
       let named : (j : ℕ) (c : Column) → slice_get is.table.columns j ≡ Some c → column_of is.table c.name ≡ Some c = λ j c here. own_first (λ (x : Column). x.name) is.table.columns j c (columns_once f.schema accepted t.num is.table is.at) here in
       let names : List Ident = column_names is.table in
-      let counted : length names ≡ length es = same_length (length names) (length es) (no_fault (not (length names == length es)) t.spot Typing (front_none (count_faults names es t) (each_type_faults (at known) is.table names es) right)) in
-      let typed = values_typed k known is.table is.table.columns es knowns named (sym (length-map is.table.columns (λ (c : Column). c.name)) ∙ counted) (back_none (count_faults names es t) (each_type_faults (at known) is.table names es) right) reads own in
+      let counted : length names ≡ length es = same_length (length names) (length es) (no_fault (not (length names == length es)) t.spot Typing (front_none (count_faults names es t) (each_type_faults (at known) is.table None names es) right)) in
+      let typed = values_typed k known is.table None is.table.columns es knowns named (sym (length-map is.table.columns (λ (c : Column). c.name)) ∙ counted) (back_none (count_faults names es t) (each_type_faults (at known) is.table None names es) right) reads own in
       typed ∙ ap (λ (x : Declaration). map (λ (c : Column). c.ty) x.columns) (same_table f.schema t.num is.table d is.at at_number)
+
+  -- the values of a row whose key is drawn
+  of_drawn : (k : ℕ) (known : List Known) (t : Ident) (is : IsTable f.schema t) (es : List Term) → AllKnown f k known → drawn_faults (at known) is.table es t ≡ [] → all_term_faults (at known) es ≡ []
+      → numbered_terms (all f) es ≡ es → AreDrawn f t es
+  of_drawn k known t is es knowns right reads own d at_number =
+      let outside : List (ℕ × Column) = outside_key is.table 0 is.table.columns in
+      let columns : List Column = map (λ (x : ℕ × Column). x.1) outside in
+      let names : List Ident = drawn_columns is.table in
+      let names_are : names ≡ map (λ (c : Column). c.name) columns = drawn_names f.schema accepted t.num is.table is.at ∙ sym (map_map (λ (x : ℕ × Column). x.1) (λ (c : Column). c.name) outside) in
+      let named : (j : ℕ) (c : Column) → slice_get columns j ≡ Some c → column_of is.table c.name ≡ Some c =
+      λ j c here. let x = at_mapped (λ (y : ℕ × Column). y.1) outside j c here in
+      own_first (λ (y : Column). y.name) is.table.columns x.0.0 c (columns_once f.schema accepted t.num is.table is.at) (outside_at is.table 0 is.table.columns j x.0 (from_start is.table) x.1 ∙ ap (λ y. Some y) x.2) in
+      let front = front_none (count_faults names es t) (each_type_faults (at known) is.table (Some t.spot) names es) right in
+      let back = back_none (count_faults names es t) (each_type_faults (at known) is.table (Some t.spot) names es) right in
+      let counted : length names ≡ length es = same_length (length names) (length es) (no_fault (not (length names == length es)) t.spot Typing front) in
+      let typed = values_typed k known is.table (Some t.spot) columns es knowns named (sym (ap (λ l. length l) names_are ∙ length-map columns (λ (c : Column). c.name)) ∙ counted)
+      (subst (λ l. each_type_faults (at known) is.table (Some t.spot) l es ≡ []) names_are back) reads own in
+      typed ∙ map_map (λ (x : ℕ × Column). x.1) (λ (c : Column). c.ty) outside
+      ∙ ap (λ (x : Declaration). map (λ (c : ℕ × Column). c.1.ty) (outside_key x 0 x.columns)) (same_table f.schema t.num is.table d is.at at_number)
 
   -- the sets of an update
   sets_suit : (k : ℕ) (known : List Known) (t : Ident) (is : IsTable f.schema t) (sets : List (Ident × Term)) → AllKnown f k known → sets_faults (at known) t is.table sets ≡ []
@@ -162,9 +186,9 @@ module _ (f : Frame) (accepted : AcceptedSchema f.schema) (once : repeats (txn_n
       let updated : UpdatedIs f (Some t) columns t.num = (is, meant, refl) in
       let term = term_is f k known (Some t) columns t.num knowns updated set.1 (front_none (term_faults inside set.1) (flat_map (λ s. term_faults inside s.1) sets) reads) term_own in
       let one : set_faults inside is.table set ≡ [] = front_none (set_faults inside is.table set) (flat_map (λ s. set_faults inside is.table s) sets) right in
-      let types_right = back_none (no_column is.table set.0 ++ fault_if (is_key is.table set.0) set.0.spot Typing) (type_faults inside is.table set.0 set.1) one in
+      let types_right = back_none (no_column is.table set.0 ++ fault_if (is_key is.table set.0) set.0.spot Typing) (type_faults inside is.table None set.0 set.1) one in
       let column_right = front_none (no_column is.table set.0) (fault_if (is_key is.table set.0) set.0.spot Typing)
-      (front_none (no_column is.table set.0 ++ fault_if (is_key is.table set.0) set.0.spot Typing) (type_faults inside is.table set.0 set.1) one) in (
+      (front_none (no_column is.table set.0 ++ fault_if (is_key is.table set.0) set.0.spot Typing) (type_faults inside is.table None set.0 set.1) one) in (
         term.reads,
         typed (column_of is.table set.0) refl (no_fault (is_none (column_of is.table set.0)) set.0.spot Unknown column_right) (subst (λ l. numbered_in l set.0 ≡ set.0) meant column_own) term.type types_right,
         sets_suit k known t is sets knowns (back_none (set_faults inside is.table set) (flat_map (λ s. set_faults inside is.table s) sets) right)
@@ -172,7 +196,7 @@ module _ (f : Frame) (accepted : AcceptedSchema f.schema) (once : repeats (txn_n
       )
     where
       typed : (o : Option Column) → column_of is.table set.0 ≡ o → is_none o ≡ false → numbered_in (column_names is.table) set.0 ≡ set.0 → terms.type_of (scopes.updating (at known) t) set.1 ≡ Some (type_of f.schema last_names t.num set.1)
-          → type_faults (scopes.updating (at known) t) is.table set.0 set.1 ≡ [] → type_of f.schema last_names t.num set.1 ≡ column_type f.schema t.num set.0.num
+          → type_faults (scopes.updating (at known) t) is.table None set.0 set.1 ≡ [] → type_of f.schema last_names t.num set.1 ≡ column_type f.schema t.num set.0.num
       typed None e known_is own_is term_type right_is = absurd cc
       typed (Some c) e known_is own_is term_type right_is =
           let same : c.ty ≡ type_of f.schema last_names t.num set.1 = not_apart (option_map (λ (x : Column). x.ty) (column_of is.table set.0)) (terms.type_of (scopes.updating (at known) t) set.1) c.ty (type_of f.schema last_names t.num set.1) (spot_of set.1)
@@ -204,6 +228,9 @@ module _ (f : Frame) (accepted : AcceptedSchema f.schema) (once : repeats (txn_n
   known_behind (ForRows r t test body) known k is own here right suits = known_more f k (after (suc k) (block_declares body)) known (let le : suc k ≤ after (suc k) (block_declares body) = not_before (suc k) (block_declares body) in omega (arith, le)) is
   known_behind (ForEach x l body) known k is own here right suits = known_more f k (after (suc k) (block_declares body)) known (let le : suc k ≤ after (suc k) (block_declares body) = not_before (suc k) (block_declares body) in omega (arith, le)) is
   known_behind (Insert t es) known k is own here right suits = is
+  known_behind (Fresh x t es) known k is own here right suits =
+      let same : numbered_name (all f) x ≡ x = cc in
+      (value_known k x Constant same (here_number f once k (plain_name x) here.0 same) suits.3, known_more f k (suc k) known (omega arith) is)
   known_behind (Update t key sets) known k is own here right suits = is
   known_behind (Remove t key) known k is own here right suits = is
   known_behind (Abort n) known k is own here right suits = is
@@ -301,6 +328,19 @@ module _ (f : Frame) (accepted : AcceptedSchema f.schema) (once : repeats (txn_n
           plain_terms k known es is reads values_own,
           allowed f.schema t row.is acts.Insert (front_none (kind_faults d acts.Insert t) (value_list_faults (at known) d (column_names d) es t) row.right),
           of_columns k known t row.is es is (back_none (kind_faults d acts.Insert t) (value_list_faults (at known) d (column_names d) es t) row.right) reads values_own,
+        )
+    command_suits (Fresh x t es) known n k is own here right inner begin final loops =
+        let same : numbered_name (all f) x ≡ x = cc in
+        let table_own : numbered_table_name (all f) t ≡ t = cc in
+        let values_own : numbered_terms (all f) es ≡ es = cc in
+        let rule : Declaration → List Refusal = λ d. kind_faults d acts.Fresh t ++ drawn_faults (at known) d es t in
+        let row = row_table t rule (all_term_faults (at known) es) table_own right in
+        let d : Declaration = row.is.table in
+        let reads = back_none (at_table (table_of f.schema t) t rule) (all_term_faults (at known) es) right in (
+          plain_terms k known es is reads values_own,
+          allowed f.schema t row.is acts.Fresh (front_none (kind_faults d acts.Fresh t) (drawn_faults (at known) d es t) row.right),
+          of_drawn k known t row.is es is (back_none (kind_faults d acts.Fresh t) (drawn_faults (at known) d es t) row.right) reads values_own,
+          final_type k x.num types.Int n (here_number f once k (plain_name x) here.0 same) final,
         )
     command_suits (Update t key sets) known n k is own here right inner begin final loops =
         let table_own : numbered_table_name (all f) t ≡ t = cc in

@@ -10,7 +10,7 @@ use Rattle.sv_app.specs.declared.schemas.Ty.{Ty}
 use Rattle.sv_app.specs.declared.schemas.Ty.TheVariants as types
 use Rattle.sv_app.specs.Paths.{Names, with_type, with_table, type_of, command_names, block_names}
 use Rattle.sv_app.specs.Statements.{inner_statements, block_statements}
-use Rattle.sv_app.specs.Trees.{Command, Declare, Assign, Fetch, Choose, ForRows, ForEach, Insert, Update, Remove, Abort, Reply, Block, Finish, Then}
+use Rattle.sv_app.specs.Trees.{Command, Declare, Assign, Fetch, Choose, ForRows, ForEach, Insert, Fresh, Update, Remove, Abort, Reply, Block, Finish, Then}
 use Rattle.sv_app.specs.TxnNames.{plain_name, row_name, declared_by, declares, names_of}
 use Rattle.sv_app.specs.TxnNumbers.{numbered_name, numbered_command, numbered_block}
 use Rattle.sv_app.specs.Typing.{repeats}
@@ -29,6 +29,7 @@ abbrev mutual
   command_declares (ForRows r t test body) = row_name r t ∷ block_declares body
   command_declares (ForEach x l body) = plain_name x ∷ block_declares body
   command_declares (Insert t es) = []
+  command_declares (Fresh x t es) = plain_name x ∷ []
   command_declares (Update t k sets) = []
   command_declares (Remove t k) = []
   command_declares (Abort n) = []
@@ -47,6 +48,7 @@ mutual
   command_lists (ForRows r t test body) = ap (λ l. row_name r t ∷ l) (block_lists body)
   command_lists (ForEach x l body) = ap (λ ds. plain_name x ∷ ds) (block_lists body)
   command_lists (Insert t es) = refl
+  command_lists (Fresh x t es) = refl
   command_lists (Update t k sets) = refl
   command_lists (Remove t k) = refl
   command_lists (Abort n) = refl
@@ -133,6 +135,9 @@ module _ (f : Frame) (once : repeats (names_of f.txn) ≡ []) where
         agree_then k n mid (block_names f.schema body mid) (agree_type k x.num types.Int n (here_number k (plain_name x) here.0 same))
         (agree_fewer k (suc k) mid (block_names f.schema body mid) (omega arith) (block_stays body mid (suc k) inner here.1))
     command_stays (Insert t es) n k own here = agree_same k n
+    command_stays (Fresh x t es) n k own here =
+        let same : numbered_name (all f) x ≡ x = cc in
+        agree_type k x.num types.Int n (here_number k (plain_name x) here.0 same)
     command_stays (Update t key sets) n k own here = agree_same k n
     command_stays (Remove t key) n k own here = agree_same k n
     command_stays (Abort m) n k own here = agree_same k n

@@ -1,5 +1,5 @@
 -- Each change of a run belongs to an entry of the trace.
-use Rattle.std.proofs.Common.{◌≡◌, ◌∙◌, ℕ, zero, suc, if◌then◌else◌, nat_lt, Bool, true, false, List, [], ◌∷◌, ◌++◌, length, map, filter, Option, Some, slice_get, refl, sym, ap, subst, arith}
+use Rattle.std.proofs.Common.{◌≡◌, ◌∙◌, ℕ, zero, suc, if◌then◌else◌, nat_lt, Bool, true, false, List, [], ◌∷◌, ◌++◌, length, map, filter, Option, Some, slice_get, refl, sym, ap, subst, arith, None}
 use Rattle.std.specs.Prelude.{pos}
 use Rattle.std.specs.FinMap.{get, insert}
 use Rattle.std.specs.List.{All, Contains}
@@ -21,19 +21,20 @@ use Rattle.sv_app.specs.Fitting.{ArgFits, ArgsFit}
 use Rattle.sv_app.specs.Schema.{Declaration}
 use Rattle.sv_app.specs.Statements.{inner_statements, block_statements}
 use Rattle.sv_app.specs.Tables.{Row}
-use Rattle.sv_app.specs.Trees.{Term, Command, Declare, Assign, Fetch, Choose, ForRows, ForEach, Insert, Update, Remove, Abort, Reply, Block, Finish, Then, Transaction}
+use Rattle.sv_app.specs.Trees.{Term, Command, Declare, Assign, Fetch, Choose, ForRows, ForEach, Insert, Fresh, Update, Remove, Abort, Reply, Block, Finish, Then, Transaction}
 use Rattle.sv_app.specs.TxnConditions.{is_loop, KeepsStatement}
 use Rattle.sv_app.specs.Units.{Loop, command_loops, block_loops, units, loop_variables, unit_of}
 use Rattle.sv_app.proofs.AcceptedLaws.{all_at}
 use Rattle.sv_effect.specs.declared.outcomes.Outcome.TheVariants as outcomes
-use Rattle.sv_effect.specs.Run.{Setting, Stand, Flow, Goes, Ends, with_scope, on_value, only, meeting, present_keys, with_row, with_value, place_of_row, row_with, changed, updating, update_over, updated, inserted, replied, begun, closed, instance, instance_of, row_turn, item_turn, left_loop, items_of, run_command, run_block, result_of, RunResult, run_body, body_of, started}
-use Rattle.sv_effect.specs.RunChanges.{Effect, key_in, with_writes, sets_made, inserts, kept_values, stands}
+use Rattle.sv_effect.specs.Run.{Setting, Stand, Flow, Goes, Ends, with_scope, on_value, only, meeting, present_keys, with_row, with_value, place_of_row, row_with, changed, updating, update_over, updated, inserted, replied, begun, closed, instance, instance_of, row_turn, item_turn, left_loop, items_of, run_command, run_block, result_of, RunResult, run_body, body_of, started, drawn, assigned, with_symbol}
+use Rattle.sv_effect.specs.RunChanges.{Effect, key_in, with_writes, sets_made, inserts, kept_values, stands, drawn_key}
 use Rattle.sv_effect.specs.RunValues.{Scope, value_of, values_of, truth_of}
 use Rattle.sv_trace.specs.Entries.{command_changes, block_changes, IsOfUnit, HasEntry}
 use Rattle.sv_trace.specs.Laws.{ChangesHaveEntries}
 use Rattle.sv_trace.specs.Standing.{Frame, IsFrame}
 use Rattle.sv_trace.proofs.FlowLaws.{Kept, then_kept, value_kept, truth_kept, present_kept, table_kept, keys_kept, if_present_kept, turns_kept}
 use Rattle.sv_trace.proofs.KeepLaws.{Keep, each_of, keep_left, keep_right, keep_inner, no_length}
+use Rattle.sv_trace.proofs.SlotLaws.{at_mapped}
 use Rattle.sv_trace.proofs.OpeningLaws.{slice_left, loops_are_units}
 use Rattle.sv_trace.proofs.StillLaws.{tag, value_still, values_still, truth_still, sets_still, inserts_still}
 use Rattle.sv_trace.proofs.UnitLaws.{Each, each_left, each_right}
@@ -56,10 +57,6 @@ at_end : {A B : Type 0} (f : A → B) (xs : List A) (b : B) → slice_get (map f
 at_end f [] b = refl
 at_end f (x ∷ xs) b = at_end f xs b
 
-at_mapped : {A B : Type 0} (f : A → B) (xs : List A) (n : ℕ) (b : B) → slice_get (map f xs) n ≡ Some b → (a : A) × (slice_get xs n ≡ Some a) × (f a ≡ b)
-at_mapped f [] n b at = absurd cc
-at_mapped f (x ∷ xs) zero b at = (x, refl, (let same : f x ≡ b = cc in same))
-at_mapped f (x ∷ xs) (suc n) b at = at_mapped f xs n b at
 
 -- the units of the entries so far; in a loop with that of the turn that the run is in
 abbrev entry_units : List Instance → List ℕ
@@ -148,6 +145,11 @@ module _ (txn : Transaction) where
       by false = value_kept (Belongs outer u) (inserts d vs kept 0 d.columns st.scope) st _ (inserts_still d vs kept 0 d.columns st.scope) (λ ws s still.
           changed_in outer u _ _ (with_scope st s) (moved outer u st s still h) refl (makes u p.table acts.Insert _ w refl refl))
 
+  drawn_in : (outer : Bool) (u x : ℕ) (d : Declaration) (p : Place) (vs : List Val) (o : Option Row) (st : Stand) → Belongs outer u st → Within u ((p.table, acts.Fresh) ∷ []) → Kept (Belongs outer u) (drawn x d p vs o st)
+  drawn_in outer u x d p vs (Some row) st h w = tt
+  drawn_in outer u x d p vs None st h w =
+      changed_in outer u _ _ (assigned x p.key.first (with_symbol p.key.first st)) (record { unit = h.unit; number = h.number; effects = h.effects }) refl (makes u p.table acts.Fresh _ w refl refl)
+
   replied_in : (outer : Bool) (u : ℕ) (v : Val) (st : Stand) → Belongs outer u st → Kept (Belongs outer u) (replied v st)
   replied_in outer u v st h = by (nat_lt (length st.replies) 16)
     where
@@ -214,6 +216,8 @@ module _ (txn : Transaction) where
       command_in false u (ForEach x list body) keep loops w st h = absurd cc
       command_in outer u (Insert table values) keep loops w st h = value_kept (Belongs outer u) (values_of values st.scope) st _ (values_still values st.scope) (λ vs s still. table_kept (Belongs outer u) (slice_get g.schema table.num) _ (λ d declared.
           inserted_in outer u d (record { table = table.num; key = key_in d.key vs }) vs (get st.tables (record { table = table.num; key = key_in d.key vs })) (with_scope st s) (moved outer u st s still h) w))
+      command_in outer u (Fresh x table values) keep loops w st h = value_kept (Belongs outer u) (values_of values st.scope) st _ (values_still values st.scope) (λ vs s still. table_kept (Belongs outer u) (slice_get g.schema table.num) _ (λ d declared.
+          let p : Place = record { table = table.num; key = drawn_key g.first st.effects } in drawn_in outer u x.num d p vs (get st.tables p) (with_scope st s) (moved outer u st s still h) w))
       command_in outer u (Update table key sets) keep loops w st h = value_kept (Belongs outer u) (values_of key st.scope) st _ (values_still key st.scope) (λ vs s still. table_kept (Belongs outer u) (slice_get g.schema table.num) _ (λ d declared.
           present_kept (Belongs outer u) (get st.tables (place_of_row table vs)) _ (λ row at present. updated_in outer u d (place_of_row table vs) sets (with_scope st s) row (moved outer u st s still h) w)))
       command_in outer u (Remove table key) keep loops w st h = value_kept (Belongs outer u) (values_of key st.scope) st _ (values_still key st.scope) (λ vs s still.
@@ -254,20 +258,20 @@ args_fit [] = tt
 args_fit (p ∷ ps) = (arg_fits p.1, args_fit ps)
 
 pub changes_have_entries : ChangesHaveEntries
-changes_have_entries schema txns request txn t accepted among =
-    subst (λ o. Entries (run_body schema (body_of o) request.args t)) (sym among) (by (run_block g txn.body (started request.args t)) (block_in txn g refl true 0 txn.body statements (loops_are_units f frame) within (started request.args t) begins))
+changes_have_entries schema txns request txn first t accepted among =
+    subst (λ o. Entries (run_body schema (body_of o) request.args first t)) (sym among) (by (run_block g txn.body (started request.args t)) (block_in txn g refl true 0 txn.body statements (loops_are_units f frame) within (started request.args t) begins))
   where
     Entries : RunResult → Type 0
     Entries ran = All (HasEntry txn ran.trace) ran.effects
 
     f : Frame
-    f = record { schema = schema; txns = txns; number = request.txn; txn = txn; args = some_args txn.params }
+    f = record { schema = schema; txns = txns; number = request.txn; txn = txn; args = some_args txn.params; first = first }
 
     frame : IsFrame f
     frame = record { accepted = accepted; among = among; fits = args_fit txn.params }
 
     g : Setting
-    g = record { schema = schema; arguments = request.args; loops = loop_variables txn.body }
+    g = record { schema = schema; arguments = request.args; first = first; loops = loop_variables txn.body }
 
     statements : Each KeepsStatement (block_statements txn.body)
     statements = each_of KeepsStatement (block_statements txn.body) (all_at (λ (x : Transaction). All KeepsStatement (block_statements x.body)) txns request.txn txn accepted.grammar among)

@@ -26,7 +26,7 @@ use Rattle.sv_app.proofs.AcceptedLaws.{counter_is_int}
 use Rattle.sv_effect.specs.declared.ops.Write.{Write}
 use Rattle.sv_effect.specs.declared.ops.Write.TheVariants.{Delta, Set}
 use Rattle.sv_effect.specs.declared.outcomes.Outcome.TheVariants as outcomes
-use Rattle.sv_effect.specs.Fits.{EffectFits, KeyFits, WriteFits, IsWrite, AreWrites, AllAbove, Ascending, columns_written, is_written, is_key_column}
+use Rattle.sv_effect.specs.Fits.{EffectFits, KeyFits, WriteFits, WritesAll, IsWrite, AreWrites, AllAbove, Ascending, columns_written, is_written, is_key_column}
 use Rattle.sv_effect.specs.RowChange.{key_values}
 use Rattle.sv_effect.specs.Run.{Stand, Flow, Goes, Ends, with_scope, on_value, changed, row_with, inserted}
 use Rattle.sv_effect.specs.RunChanges.{Effect, key_in, with_writes, kept_to, insert_of, inserts, kept_values, stands}
@@ -84,6 +84,8 @@ insert_step k true merges.NumDelta v got s w z merged integer typed kept is = re
 insert_step k false merges.NumDelta v got s w z merged integer typed kept is = let step = kept_step k v (val_of got) got s w z merged (integer merged) kept refl is in record { fits = step.fits; went = step.went }
 insert_step k true merges.Plain v got s w z merged integer typed kept is = let step = set_step k merges.Plain v s w z merged (λ e. let bad : merges.Plain ≡ merges.NumDelta = e in cc) typed is in record { fits = step.fits; went = step.went }
 insert_step k false merges.Plain v got s w z merged integer typed kept is = let step = set_step k merges.Plain v s w z merged (λ e. let bad : merges.Plain ≡ merges.NumDelta = e in cc) typed is in record { fits = step.fits; went = step.went }
+insert_step k true merges.Fresh v got s w z merged integer typed kept is = let step = set_step k merges.Fresh v s w z merged (λ e. let bad : merges.Fresh ≡ merges.NumDelta = e in cc) typed is in record { fits = step.fits; went = step.went }
+insert_step k false merges.Fresh v got s w z merged integer typed kept is = let step = set_step k merges.Fresh v s w z merged (λ e. let bad : merges.Fresh ≡ merges.NumDelta = e in cc) typed is in record { fits = step.fits; went = step.went }
 insert_step k true merges.Lww v got s w z merged integer typed kept is = let step = set_step k merges.Lww v s w z merged (λ e. let bad : merges.Lww ≡ merges.NumDelta = e in cc) typed is in record { fits = step.fits; went = step.went }
 insert_step k false merges.Lww v got s w z merged integer typed kept is = let step = set_step k merges.Lww v s w z merged (λ e. let bad : merges.Lww ≡ merges.NumDelta = e in cc) typed is in record { fits = step.fits; went = step.went }
 
@@ -98,6 +100,34 @@ pub record Inserts (d : Declaration) (c : ℕ) (columns : List Column) (way : Wa
 written_or : (a b : Bool) → b ≡ true → (a || b) ≡ true
 written_or true b e = refl
 written_or false b e = e
+
+-- the columns from so many on that are outside the key are written
+abbrev IsWhole : Declaration → ℕ → List Column → List (ℕ × Write) → Type 0
+IsWhole d c columns ws = (j : ℕ) → j < length columns → is_key_column d.key (c + j) ≡ false → is_written (c + j) ws ≡ true
+
+-- a column more, which is of the key
+pub whole_key : (d : Declaration) (c : ℕ) (all columns : List Column) (ws : List (ℕ × Write)) → length all ≡ suc (length columns)
+    → symbols.is_key_column d.key c ≡ true → IsWhole d (suc c) columns ws → IsWhole d c all ws
+whole_key d c all columns ws one key rest zero less outside =
+    let n : (c + 0) ≡ c = omega arith in
+    let bad : true ≡ false = sym key ∙ sym (key_same d.key c) ∙ ap (is_key_column d.key) (sym n) ∙ outside in
+    absurd cc
+whole_key d c all columns ws one key rest (suc j) less outside =
+    let n : (c + suc j) ≡ (suc c + j) = omega arith in
+    ap (λ m. is_written m ws) n ∙ rest j (omega (arith, one, less)) (ap (is_key_column d.key) (sym n) ∙ outside)
+
+-- a column more, which is written
+pub whole_written : (d : Declaration) (c : ℕ) (all columns : List Column) (w : Write) (ws : List (ℕ × Write)) → length all ≡ suc (length columns)
+    → IsWhole d (suc c) columns ws → IsWhole d c all ((c, w) ∷ ws)
+whole_written d c all columns w ws one rest zero less outside = rw (same_test c (c + 0) (omega arith)) refl
+whole_written d c all columns w ws one rest (suc j) less outside =
+    let n : (c + suc j) ≡ (suc c + j) = omega arith in
+    written_or (c == (c + suc j)) (is_written (c + suc j) ws) (ap (λ m. is_written m ws) n ∙ rest j (omega (arith, one, less)) (ap (is_key_column d.key) (sym n) ∙ outside))
+
+pub all_written : (d : Declaration) (ws : List (ℕ × Write)) → IsWhole d 0 d.columns ws → WritesAll d ws
+all_written d ws whole n less outside =
+    let e : (0 + n) ≡ n = omega arith in
+    ap (λ m. is_written m ws) (sym e) ∙ whole n less (ap (is_key_column d.key) e ∙ outside)
 
 module _ (d : Declaration) (vs : List Val) (kept : List Got) (grows : Bool) (integers : (c : ℕ) (k : Column) → slice_get d.columns c ≡ Some k → k.merge ≡ merges.NumDelta → k.ty ≡ types.Int)
     (typed : (c : ℕ) (k : Column) → slice_get d.columns c ≡ Some k → type_of_val (item nothing vs c) ≡ k.ty) (kept_typed_at : (c : ℕ) (k : Column) → slice_get d.columns c ≡ Some k → type_of_got (column kept c) ≡ k.ty)
@@ -128,19 +158,9 @@ module _ (d : Declaration) (vs : List Val) (kept : List Got) (grows : Bool) (int
             writes = rest.writes;
             above = λ n less. rest.above n (omega (arith, less));
             order = rest.order;
-            whole = whole rest.whole;
+            whole = whole_key d c (k ∷ columns) columns ws refl key rest.whole;
             went = rest.went;
           }
-        where
-          whole : ((j : ℕ) → j < length columns → is_key_column d.key (suc c + j) ≡ false → is_written (suc c + j) ws ≡ true) → (j : ℕ) → j < length (k ∷ columns) → is_key_column d.key (c + j) ≡ false
-              → is_written (c + j) ws ≡ true
-          whole rest zero less outside =
-              let n : (c + 0) ≡ c = omega arith in
-              let bad : true ≡ false = sym key ∙ sym (key_same d.key c) ∙ ap (is_key_column d.key) (sym n) ∙ outside in
-              absurd cc
-          whole rest (suc j) less outside =
-              let n : (c + suc j) ≡ (suc c + j) = omega arith in
-              ap (λ m. is_written m ws) n ∙ rest j (omega (arith, less)) (ap (is_key_column d.key) (sym n) ∙ outside)
       by_key false key is more =
           let g = then_gives (insert_of (is_grow_only d.kind) k.merge (item nothing vs c) (column kept c) s) (λ w u. then_value (inserts d vs kept (suc c) columns u) (λ ls y. Gives ((c, w) ∷ ls) y)) ws z is in
           let h = then_gives (inserts d vs kept (suc c) columns g.scope) (λ ls y. Gives ((c, g.value) ∷ ls) y) ws z g.last in
@@ -153,18 +173,11 @@ module _ (d : Declaration) (vs : List Val) (kept : List Got) (grows : Bool) (int
             writes = (write, rest.writes);
             above = λ n less. (less, rest.above n (omega (arith, less)));
             order = (rest.above c (omega arith), rest.order);
-            whole = whole g.value h.value rest.whole;
+            whole = whole_written d c (k ∷ columns) columns g.value h.value refl rest.whole;
             went = kept_then grows (kept_way k.merge) (columns_way d (suc c) columns) s g.scope h.scope step.went rest.went;
           } in
           subst (λ y. Inserts d c (k ∷ columns) (where_kept grows way) s ws y) (same_scope ((c, g.value) ∷ h.value) ws h.scope z h.last)
           (subst (λ l. Inserts d c (k ∷ columns) (where_kept grows way) s l h.scope) (same_value ((c, g.value) ∷ h.value) ws h.scope z h.last) done)
-        where
-          whole : (w : Write) (ls : List (ℕ × Write)) → ((j : ℕ) → j < length columns → is_key_column d.key (suc c + j) ≡ false → is_written (suc c + j) ls ≡ true) → (j : ℕ) → j < length (k ∷ columns)
-              → is_key_column d.key (c + j) ≡ false → is_written (c + j) ((c, w) ∷ ls) ≡ true
-          whole w ls rest zero less outside = rw (same_test c (c + 0) (omega arith)) refl
-          whole w ls rest (suc j) less outside =
-              let n : (c + suc j) ≡ (suc c + j) = omega arith in
-              written_or (c == (c + suc j)) (is_written (c + suc j) ls) (ap (λ m. is_written m ls) n ∙ rest j (omega (arith, less)) (ap (is_key_column d.key) (sym n) ∙ outside))
 
 -- a value of the type that stands there
 pub val_at : (tys : List Ty) (vs : List Val) (c : ℕ) → map type_of_val vs ≡ tys → type_of_val (item nothing vs c) ≡ unwrap_or (slice_get tys c) types.Int
@@ -221,9 +234,3 @@ makes_insert f at t es st vs z d p row end command holds is declared place found
       along = subst (λ (q : Values). Along to st.scope.progress q.progress) (sym done.scope)
           (along_went to kept_at way st.scope z ran.scope.progress values.went (λ w. ap (λ o. Leads (insert_way o (way w))) declared) made.went.unit made.went.choices made.went.ways);
     }
-  where
-    all_written : (d : Declaration) (ws : List (ℕ × Write)) → ((j : ℕ) → j < length d.columns → is_key_column d.key (0 + j) ≡ false → is_written (0 + j) ws ≡ true) → (n : ℕ) → n < length d.columns
-        → is_key_column d.key n ≡ false → is_written n ws ≡ true
-    all_written d ws whole n less outside =
-        let e : (0 + n) ≡ n = omega arith in
-        ap (λ m. is_written m ws) (sym e) ∙ whole n less (ap (is_key_column d.key) e ∙ outside)

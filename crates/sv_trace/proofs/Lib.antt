@@ -2,8 +2,10 @@ pub mod BlockLaws
 pub mod BodyLaws
 pub mod ChangeLaws
 pub mod DeclareLaws
+pub mod DrawnLaws
 pub mod EntryLaws
 pub mod FlowLaws
+pub mod FreshLaws
 pub mod InsertLaws
 pub mod KeepLaws
 pub mod LoopLaws

@@ -10,15 +10,15 @@ use Rattle.sv_app.specs.declared.gots.Got.{Got}
 use Rattle.sv_app.specs.declared.places.Place.{Place}
 use Rattle.sv_app.specs.Schema.{Declaration}
 use Rattle.sv_app.specs.Tables.{Row, Tables}
-use Rattle.sv_app.specs.Trees.{Term, Command, Declare, Assign, Fetch, Choose, ForRows, ForEach, Insert, Update, Remove, Abort, Reply, Block, Finish, Then}
+use Rattle.sv_app.specs.Trees.{Term, Command, Declare, Assign, Fetch, Choose, ForRows, ForEach, Insert, Fresh, Update, Remove, Abort, Reply, Block, Finish, Then}
 use Rattle.sv_app.specs.Units.{unit_of, loop_variables}
 use Rattle.sv_effect.specs.declared.outcomes.Outcome.TheVariants as outcomes
-use Rattle.sv_effect.specs.Acts.{IsFound}
+use Rattle.sv_effect.specs.Acts.{is_draw, IsFound}
 use Rattle.sv_effect.specs.Applied.{zeros_of}
 use Rattle.sv_effect.specs.BareTables.{got_of}
 use Rattle.sv_effect.specs.Effects.{values_before, row_after, with_effect, with_effects, FindsAll}
-use Rattle.sv_effect.specs.Run.{Setting, Stand, Flow, Goes, Ends, with_scope, on_value, only, meeting, present_keys, with_row, with_value, place_of_row, row_with, changed, updating, update_over, updated, inserted, removed, replied, begun, closed, instance, row_turn, item_turn, left_loop, items_of, run_command, run_block, result_of, body_of, started, left_of}
-use Rattle.sv_effect.specs.RunChanges.{Effect, key_in, with_writes, sets_made, in_order, inserts, kept_values, stands}
+use Rattle.sv_effect.specs.Run.{Setting, Stand, Flow, Goes, Ends, with_scope, on_value, only, meeting, present_keys, with_row, with_value, place_of_row, row_with, changed, updating, update_over, updated, inserted, assigned, with_symbol, drawn, removed, replied, begun, closed, instance, row_turn, item_turn, left_loop, items_of, run_command, run_block, result_of, body_of, started, left_of}
+use Rattle.sv_effect.specs.RunChanges.{Effect, key_in, with_writes, sets_made, in_order, inserts, kept_values, stands, drawn_writes, drawn_key}
 use Rattle.sv_effect.specs.RunValues.{value_of, values_of, truth_of}
 use Rattle.sv_trace.specs.Laws.{AreMadeOn, RunsMakeTheirTables}
 use Rattle.sv_trace.proofs.FlowLaws.{Kept, then_kept, value_kept, truth_kept, present_kept, table_kept, keys_kept, if_present_kept, turns_kept}
@@ -34,13 +34,14 @@ finds_more : (schema : List Declaration) (es : List Effect) (e : Effect) (t : Ta
 finds_more schema [] e t finds here = (here, tt)
 finds_more schema (x ∷ es) e t finds here = (finds.0, finds_more schema es e (with_effect schema x t) finds.1 here)
 
-found_kept : (act : Act) (o : Option Row) (row : Row) → o ≡ Some row → IsFound act o
-found_kept act o row at = subst (IsFound act) (sym at) (by act)
+found_kept : (act : Act) (o : Option Row) (row : Row) → is_draw act ≡ false → o ≡ Some row → IsFound act o
+found_kept act o row drawn at = subst (IsFound act) (sym at) (by act drawn)
   where
-    by : (a : Act) → IsFound a (Some row)
-    by acts.Insert = tt
-    by acts.Update = tt
-    by acts.Remove = tt
+    by : (a : Act) → is_draw a ≡ false → IsFound a (Some row)
+    by acts.Insert e = tt
+    by acts.Fresh e = absurd cc
+    by acts.Update e = tt
+    by acts.Remove e = tt
 
 module _ (schema : List Declaration) (t : Tables) where
   -- where a run stands, its changes found their rows and made its tables
@@ -61,21 +62,28 @@ module _ (schema : List Declaration) (t : Tables) where
   updated_made d p sets st row h at present = value_kept Made (sets_made d.columns sets (updating row.values st.scope)) st _ (sets_still d.columns sets (updating row.values st.scope)) (λ ws s still.
       changed_made _ _ (update_over (with_scope st s)) h
       (λ i. row_with (with_writes (in_order d 0 d.columns ws) (values_before schema p (sym at i))) (updates i))
-      (found_kept acts.Update (get st.tables p) row at))
+      (found_kept acts.Update (get st.tables p) row refl at))
     where
       updates : true ≡ stands (get st.tables p)
       updates = sym (ap stands at ∙ present)
 
   removed_made : (p : Place) (st : Stand) (row : Row) → Made st → get st.tables p ≡ Some row → Kept Made (removed p st row)
-  removed_made p st row h at = changed_made _ _ st h (λ i. row_with (values_before schema p (sym at i)) false) (found_kept acts.Remove (get st.tables p) row at)
+  removed_made p st row h at = changed_made _ _ st h (λ i. row_with (values_before schema p (sym at i)) false) (found_kept acts.Remove (get st.tables p) row refl at)
+
+  -- what an insert finds is what its change starts from
+  starts_from : (d : Declaration) (p : Place) (o : Option Row) → slice_get schema p.table ≡ Some d → kept_values d p.key o ≡ values_before schema p o
+  starts_from d p None declared = ap (λ x. map got_of (zeros_of x p.key)) (sym declared)
+  starts_from d p (Some row) declared = refl
+
+  drawn_made : (x : ℕ) (d : Declaration) (p : Place) (vs : List Val) (o : Option Row) (st : Stand) → slice_get schema p.table ≡ Some d → get st.tables p ≡ o → Made st → Kept Made (drawn x d p vs o st)
+  drawn_made x d p vs (Some row) st declared at h = tt
+  drawn_made x d p vs None st declared at h = changed_made _ _ (assigned x p.key.first (with_symbol p.key.first st)) h
+      (λ i. row_with (with_writes (drawn_writes d vs) ((starts_from d p None declared ∙ ap (values_before schema p) (sym at)) i)) true)
+      (subst (IsFound acts.Fresh) (sym at) tt)
 
   inserted_made : (d : Declaration) (p : Place) (vs : List Val) (o : Option Row) (st : Stand) → slice_get schema p.table ≡ Some d → get st.tables p ≡ o → Made st → Kept Made (inserted d p vs o st)
   inserted_made d p vs o st declared at h = by (stands o)
     where
-      values : (o : Option Row) → kept_values d p.key o ≡ values_before schema p o
-      values None = ap (λ x. map got_of (zeros_of x p.key)) (sym declared)
-      values (Some row) = refl
-
       kept : List Got
       kept = kept_values d p.key o
 
@@ -83,7 +91,7 @@ module _ (schema : List Declaration) (t : Tables) where
           changed (record { place = p; act = acts.Insert; writes = writes; instance = z.scope.progress.number }) (row_with (with_writes writes kept) true) z))
       by true = tt
       by false = value_kept Made (inserts d vs kept 0 d.columns st.scope) st _ (inserts_still d vs kept 0 d.columns st.scope) (λ ws s still.
-          changed_made _ _ (with_scope st s) h (λ i. row_with (with_writes ws ((values o ∙ ap (values_before schema p) (sym at)) i)) true) tt)
+          changed_made _ _ (with_scope st s) h (λ i. row_with (with_writes ws ((starts_from d p o declared ∙ ap (values_before schema p) (sym at)) i)) true) tt)
 
   replied_made : (v : Val) (st : Stand) → Made st → Kept Made (replied v st)
   replied_made v st h = by (nat_lt (length st.replies) 16)
@@ -116,6 +124,8 @@ module _ (schema : List Declaration) (t : Tables) where
         (turns_kept Made (items_of (slice_get g.arguments list.num)) (item_turn (unit_of g.loops x.num) x.num (run_block g body)) (item_turn_made (unit_of g.loops x.num) x.num (run_block g body) (block_made g of body)) st h) (λ z hz. hz)
     command_made g of (Insert table values) st h = value_kept Made (values_of values st.scope) st _ (values_still values st.scope) (λ vs s still. table_kept Made (slice_get g.schema table.num) _ (λ d declared.
         inserted_made d (record { table = table.num; key = key_in d.key vs }) vs _ (with_scope st s) (ap (λ x. slice_get x table.num) (sym of) ∙ declared) refl h))
+    command_made g of (Fresh x table values) st h = value_kept Made (values_of values st.scope) st _ (values_still values st.scope) (λ vs s still. table_kept Made (slice_get g.schema table.num) _ (λ d declared.
+        drawn_made x.num d (record { table = table.num; key = drawn_key g.first st.effects }) vs _ (with_scope st s) (ap (λ y. slice_get y table.num) (sym of) ∙ declared) refl h))
     command_made g of (Update table key sets) st h = value_kept Made (values_of key st.scope) st _ (values_still key st.scope) (λ vs s still. table_kept Made (slice_get g.schema table.num) _ (λ d declared.
         present_kept Made (get st.tables (place_of_row table vs)) _ (λ row at present. updated_made d (place_of_row table vs) sets (with_scope st s) row h at present)))
     command_made g of (Remove table key) st h = value_kept Made (values_of key st.scope) st _ (values_still key st.scope) (λ vs s still.
@@ -128,13 +138,13 @@ module _ (schema : List Declaration) (t : Tables) where
     block_made g of (Then c b) st h = then_kept Made Made (run_command g c st) (run_block g b) (command_made g of c st h) (block_made g of b)
 
 pub runs_make_their_tables : RunsMakeTheirTables
-runs_make_their_tables schema txns request t = by (run_block g body (started request.args t)) (block_made schema t g refl body (started request.args t) (record { find = tt; leave = refl }))
+runs_make_their_tables schema txns request first t = by (run_block g body (started request.args t)) (block_made schema t g refl body (started request.args t) (record { find = tt; leave = refl }))
   where
     body : Block
     body = body_of (slice_get txns request.txn)
 
     g : Setting
-    g = record { schema = schema; arguments = request.args; loops = loop_variables body }
+    g = record { schema = schema; arguments = request.args; first = first; loops = loop_variables body }
 
     by : (flow : Flow) → Kept (λ st. AreMadeOn schema t st.effects st.tables) flow → AreMadeOn schema t (result_of schema flow).effects (left_of t flow)
     by (Goes st) h = h

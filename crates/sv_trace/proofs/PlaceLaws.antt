@@ -8,7 +8,7 @@ use Rattle.sv_app.specs.declared.refusals.Refusal.{Refusal}
 use Rattle.sv_app.specs.Accepted.{AcceptedSchema}
 use Rattle.sv_app.specs.Scopes.{Scope, knowing, opening}
 use Rattle.sv_app.specs.Statements.{inner_statements, block_statements}
-use Rattle.sv_app.specs.Trees.{Command, Declare, Assign, Fetch, Choose, ForRows, ForEach, Insert, Update, Remove, Abort, Reply, Block, Finish, Then, Transaction}
+use Rattle.sv_app.specs.Trees.{Command, Declare, Assign, Fetch, Choose, ForRows, ForEach, Insert, Fresh, Update, Remove, Abort, Reply, Block, Finish, Then, Transaction}
 use Rattle.sv_app.specs.TxnConditions.{is_loop, KeepsStatement}
 use Rattle.sv_app.specs.TxnNames.{plain_name, row_name, declares}
 use Rattle.sv_app.specs.TxnNames as txn_names
@@ -33,6 +33,7 @@ mutual
   next_after (ForRows r t c body) k = block_next_after body (suc k)
   next_after (ForEach x l body) k = block_next_after body (suc k)
   next_after (Insert t vs) k = refl
+  next_after (Fresh x t vs) k = refl
   next_after (Update t key ss) k = refl
   next_after (Remove t key) k = refl
   next_after (Abort n) k = refl
@@ -93,6 +94,7 @@ module _ (f : Frame) (accepted : AcceptedSchema f.schema) (named : repeats (txn_
         )
     command_placed false (ForEach x l body) known k is own here right inner suits kept = absurd cc
     command_placed outer (Insert t es) known k is own here right inner suits kept = tt
+    command_placed outer (Fresh x t es) known k is own here right inner suits kept = here_number f named k (plain_name x) here.0 (let same : numbered_name (all f) x ≡ x = cc in same)
     command_placed outer (Update t key sets) known k is own here right inner suits kept = tt
     command_placed outer (Remove t key) known k is own here right inner suits kept = tt
     command_placed outer (Abort n) known k is own here right inner suits kept = tt

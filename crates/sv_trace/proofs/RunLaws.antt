@@ -16,18 +16,19 @@ use Rattle.sv_app.specs.Schema.{Declaration}
 use Rattle.sv_app.specs.Scopes.{Scope, knowing, opening}
 use Rattle.sv_app.specs.Shaped.{Shaped}
 use Rattle.sv_app.specs.Tables.{Row}
-use Rattle.sv_app.specs.Trees.{Term, Test, Command, Declare, Assign, Fetch, Choose, ForRows, ForEach, Insert, Update, Remove, Abort, Reply, Block, Finish, Then}
+use Rattle.sv_app.specs.Trees.{Term, Test, Command, Declare, Assign, Fetch, Choose, ForRows, ForEach, Insert, Fresh, Update, Remove, Abort, Reply, Block, Finish, Then}
 use Rattle.sv_app.specs.TxnTyping.{behind}
 use Rattle.sv_app.specs.Units.{loop_variables, unit_of}
 use Rattle.sv_effect.specs.declared.outcomes.Outcome.TheVariants as outcomes
 use Rattle.sv_effect.specs.Fits.{EffectFits}
-use Rattle.sv_effect.specs.Run.{Setting, Stand, Flow, Goes, Ends, then_do, with_scope, on_truth, on_present, on_table, on_keys, only, with_row, with_value, place_of_row, fetched, inserted, updated, removed, meeting, present_keys, turns, begun, closed, instance, if_present, row_turn, item_turn, left_loop, items_of, run_command, run_block, body_of, run_body, run, started, result_of}
-use Rattle.sv_effect.specs.RunChanges.{key_in}
+use Rattle.sv_effect.specs.Run.{Setting, Stand, Flow, Goes, Ends, then_do, with_scope, on_truth, on_present, on_table, on_keys, only, with_row, with_value, place_of_row, fetched, inserted, updated, removed, meeting, present_keys, turns, begun, closed, instance, if_present, row_turn, item_turn, left_loop, items_of, run_command, run_block, body_of, run_body, run, started, result_of, drawn}
+use Rattle.sv_effect.specs.RunChanges.{key_in, drawn_key}
 use Rattle.sv_effect.specs.RunValues.{Evaluated, Leaves, Gives, values_of, truth_of}
 use Rattle.sv_trace.specs.Laws.{IsShapedRun, RunsAreShaped}
 use Rattle.sv_trace.specs.Standing.{Frame, IsFrame, BlockIn, CommandIn, Holds, Passes, Makes, Turned}
 use Rattle.sv_trace.proofs.BlockLaws.{first_in, rest_in, passes_finish, passes_then}
 use Rattle.sv_trace.proofs.ChangeLaws.{own_rows_fit, makes_remove}
+use Rattle.sv_trace.proofs.FreshLaws.{makes_fresh}
 use Rattle.sv_trace.proofs.InsertLaws.{makes_insert}
 use Rattle.sv_trace.proofs.LoopLaws.{yes_in, no_in, test_holds, makes_yes, makes_no, rows_in, items_in, row_begins, item_begins, row_turn_closes, item_turn_closes, turned_none, turned_more, makes_rows, makes_items}
 use Rattle.sv_trace.proofs.OpeningLaws.{body_in, begins_on, completes_on}
@@ -73,7 +74,7 @@ all_turned P f at (x ∷ xs) turn all one st end holds is =
 
 module _ (f : Frame) where
   abbrev pub setting : Setting
-  setting = record { schema = f.schema; arguments = f.args; loops = loop_variables f.txn.body }
+  setting = record { schema = f.schema; arguments = f.args; first = f.first; loops = loop_variables f.txn.body }
 
   pub turn_of_row : (at : Scope) (r t : Ident) (test : Option Test) (body : Block) → CommandIn f at (ForRows r t test body) → Run (run_block setting body) f (knowing at r (RowOf t)) body → (k : Key) (st end : Stand) → Holds f at st
       → row_turn (unit_of (loop_variables f.txn.body) r.num) r.num t.num (run_block setting body) k st ≡ Goes end → Turned f at st end
@@ -204,6 +205,22 @@ module _ (f : Frame) where
           let p : Place = record { table = t.num; key = key_in d.key ran.is } in
           makes_insert f at t es st ran.is ran.scope d p (get st.tables p) end command holds ran.gives declared refl (own_rows_fit f at st p (get st.tables p) holds refl) e
 
+  of_fresh : (at : Scope) (x t : Ident) (es : List Term) (st end : Stand) → CommandIn f at (Fresh x t es) → Holds f at st → run_command setting (Fresh x t es) st ≡ Goes end → Makes f at (Fresh x t es) st end
+  of_fresh at x t es st end command holds is = by_table (slice_get f.schema t.num) refl ran.goes
+    where
+      p : Place
+      p = record { table = t.num; key = drawn_key f.first st.effects }
+
+      go : List Val → Stand → Flow
+      go vs z = on_table (slice_get f.schema t.num) (λ d. let q : Place = record { table = t.num; key = drawn_key f.first z.effects } in drawn x.num d q vs (get z.tables q) z)
+
+      ran : WentOn (values_of es st.scope) st go end
+      ran = on_value_goes (values_of es st.scope) st go end is
+
+      by_table : (o : Option Declaration) → slice_get f.schema t.num ≡ o → on_table o (λ d. drawn x.num d p ran.is (get st.tables p) (with_scope st ran.scope)) ≡ Goes end → Makes f at (Fresh x t es) st end
+      by_table None declared e = absurd cc
+      by_table (Some d) declared e = makes_fresh f at x t es st ran.is ran.scope d (get st.tables p) end command holds ran.gives declared e
+
   mutual
     pub of_command : (c : Command) (at : Scope) (st end : Stand) → CommandIn f at c → Holds f at st → run_command setting c st ≡ Goes end → Makes f at c st end
     of_command (Declare x e) at st end command holds is = makes_declare f at x e setting st end command holds is
@@ -216,6 +233,7 @@ module _ (f : Frame) where
     of_command (ForEach x l body) at st end command holds is =
         of_items at x l body st end command (λ one two held step. of_block body (knowing at x Constant) one two (items_in f at x l body command) held step) holds is
     of_command (Insert t es) at st end command holds is = of_insert at t es st end command holds is
+    of_command (Fresh x t es) at st end command holds is = of_fresh at x t es st end command holds is
     of_command (Update t k sets) at st end command holds is = of_update at t k sets st end command holds is
     of_command (Remove t k) at st end command holds is = of_remove at t k st end command holds is
     of_command (Abort n) at st end command holds is = absurd cc
@@ -229,14 +247,14 @@ module _ (f : Frame) where
         passes_then f at c b st went.mid end makes (of_block b (behind at c) went.mid end (rest_in f at c b block) makes.holds went.rest)
 
 pub runs_are_shaped : RunsAreShaped
-runs_are_shaped schema txns request txn t accepted among fits rows =
+runs_are_shaped schema txns request txn first t accepted among fits rows =
     ap_run (by_flow (run_block (setting f) txn.body (started request.args t)) refl)
   where
     f : Frame
-    f = record { schema = schema; txns = txns; number = request.txn; txn = txn; args = request.args }
+    f = record { schema = schema; txns = txns; number = request.txn; txn = txn; args = request.args; first = first }
 
-    ap_run : IsShapedRun schema txn (result_of schema (run_block (setting f) txn.body (started request.args t))) → IsShapedRun schema txn (run schema txns request t)
-    ap_run shaped = subst (λ o. IsShapedRun schema txn (run_body schema (body_of o) request.args t)) (sym among) shaped
+    ap_run : IsShapedRun schema txn (result_of schema (run_block (setting f) txn.body (started request.args t))) → IsShapedRun schema txn (run schema txns request first t)
+    ap_run shaped = subst (λ o. IsShapedRun schema txn (run_body schema (body_of o) request.args first t)) (sym among) shaped
 
     by_flow : (flow : Flow) → run_block (setting f) txn.body (started request.args t) ≡ flow → IsShapedRun schema txn (result_of schema flow)
     by_flow (Ends o) is = record { trace = All-nil (Shaped schema txn); changes = All-nil (EffectFits schema); few = omega arith }

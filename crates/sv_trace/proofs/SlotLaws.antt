@@ -1,5 +1,5 @@
 -- A list by numbers after something was put into it.
-use Rattle.std.proofs.Common.{◌≡◌, ◌∙◌, ℕ, zero, suc, ◌==◌, Bool, true, false, List, [], ◌∷◌, refl, sym, ap, subst, arith}
+use Rattle.std.proofs.Common.{◌≡◌, ◌∙◌, ℕ, zero, suc, ◌==◌, Bool, true, false, List, [], ◌∷◌, refl, sym, ap, subst, arith, slice_get, map, Some}
 use Rattle.std.proofs.lemmas.Bool.Decides.{nat_tests}
 use Rattle.sv_app.specs.Slots.{item, with_item}
 use Rattle.sv_app.proofs.TestLaws.{test_same}
@@ -35,3 +35,9 @@ at_items P d x n m xs here others = by_test (n == m) refl
         let same : n ≡ m = test_same n m e in
         subst (λ k. P k (item d (with_item d n x xs) k)) same (subst (P n) (sym (item_here d x n xs)) here)
     by_test false e = subst (P m) (sym (item_other d x n m xs (test_other n m e))) (others (test_other n m e))
+
+-- what a mapped list has is made of what the list has there
+pub at_mapped : {A B : Type 0} (f : A → B) (xs : List A) (n : ℕ) (b : B) → slice_get (map f xs) n ≡ Some b → (a : A) × (slice_get xs n ≡ Some a) × (f a ≡ b)
+at_mapped f [] n b at = absurd cc
+at_mapped f (x ∷ xs) zero b at = (x, refl, (let same : f x ≡ b = cc in same))
+at_mapped f (x ∷ xs) (suc n) b at = at_mapped f xs n b at

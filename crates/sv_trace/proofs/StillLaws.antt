@@ -114,6 +114,7 @@ delta_still new old s = by (narrow (number_in new -ℤ number_in old))
 set_still : (m : Merge) (c : ℕ) (v : Val) (s : Scope) → Still s (set_of m c v s)
 set_still merges.Plain c v s = refl
 set_still merges.Lww c v s = refl
+set_still merges.Fresh c v s = refl
 set_still merges.NumDelta c v s = then_still (read_old c s) (delta_to v) s (read_old_still c s) (λ old z. delta_still v old z)
 
 pub sets_still : (columns : List Column) (sets : List (Ident × Term)) (s : Scope) → Still s (sets_made columns sets s)
@@ -139,6 +140,8 @@ insert_still true merges.Plain v kept s = refl
 insert_still false merges.Plain v kept s = refl
 insert_still true merges.Lww v kept s = refl
 insert_still false merges.Lww v kept s = refl
+insert_still true merges.Fresh v kept s = refl
+insert_still false merges.Fresh v kept s = refl
 
 pub inserts_still : (table : Declaration) (vs : List Val) (kept : List Got) (c : ℕ) (columns : List Column) (s : Scope) → Still s (inserts table vs kept c columns s)
 inserts_still table vs kept c [] s = refl

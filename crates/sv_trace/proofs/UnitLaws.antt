@@ -2,7 +2,7 @@
 use Rattle.std.proofs.Common.{◌≡◌, ◌∙◌, ℕ, suc, ◌≤◌, ◌==◌, true, false, if◌then◌else◌, List, [], ◌∷◌, ◌++◌, map, Some, slice_get, refl, sym, ap, subst, arith, append_assoc, append-nil}
 use Rattle.sv_app.specs.TxnNames.{plain_name, row_name, names_of}
 use Rattle.sv_app.specs.TxnNumbers.{numbered_name, numbered_command, numbered_block}
-use Rattle.sv_app.specs.Trees.{Command, Declare, Assign, Fetch, Choose, ForRows, ForEach, Insert, Update, Remove, Abort, Reply, Block, Finish, Then}
+use Rattle.sv_app.specs.Trees.{Command, Declare, Assign, Fetch, Choose, ForRows, ForEach, Insert, Fresh, Update, Remove, Abort, Reply, Block, Finish, Then}
 use Rattle.sv_app.specs.Typing.{repeats}
 use Rattle.sv_app.specs.Units.{Loop, command_loops, block_loops, units, loop_variables, unit_of}
 use Rattle.sv_app.proofs.TestLaws.{same_test, other_test}
@@ -75,6 +75,7 @@ module _ (f : Frame) (once : repeats (names_of f.txn) ≡ []) where
         let number : x.num ≡ k = here_number f once k (plain_name x) here.0 same in
         (omega (arith, number), subst (λ n. LoopsFrom (suc n) (block_loops body ++ more)) (sym number) (block_from body (suc k) more inner here.1 from))
     command_from (Insert t es) k more own here from = from
+    command_from (Fresh x t es) k more own here from = loops_fewer k (suc k) more (omega arith) from
     command_from (Update t key sets) k more own here from = from
     command_from (Remove t key) k more own here from = from
     command_from (Abort n) k more own here from = from

@@ -67,6 +67,10 @@ module _ (f : Frame) (at : Scope) (t : Ident) (d : Declaration) (accepted : Acce
     fits = λ k here. subst (WriteFits k) (same_value (Set v) w s z is) (plain_fits merges.Lww name.num v (λ e. let bad : merges.Lww ≡ merges.NumDelta = e in cc) merged typed k here);
     went = went_to (λ x. x) s s z (same_scope (Set v) w s z is) (went_none s);
   }
+  set_step name v s w z merges.Fresh sees old typed merged is = record {
+    fits = λ k here. subst (WriteFits k) (same_value (Set v) w s z is) (plain_fits merges.Fresh name.num v (λ e. let bad : merges.Fresh ≡ merges.NumDelta = e in cc) merged typed k here);
+    went = went_to (λ x. x) s s z (same_scope (Set v) w s z is) (went_none s);
+  }
   set_step name v s w z merges.NumDelta sees old typed merged is =
       let g = then_gives (read_old name.num s) (delta_to v) w z is in
       let now = evaluates f (behind_set at t) t.num (Old name name.spot) s g.value g.scope sees old (λ none. let bad : Some t ≡ None = none in cc) g.first in

@@ -4,7 +4,7 @@ use Rattle.std.specs.List.{Contains}
 use Rattle.sv_app.specs.declared.acts.Act.{Act}
 use Rattle.sv_app.specs.declared.acts.Act.TheVariants as acts
 use Rattle.sv_app.specs.declared.instances.Instance.{Instance}
-use Rattle.sv_app.specs.Trees.{Command, Declare, Assign, Fetch, Choose, ForRows, ForEach, Insert, Update, Remove, Abort, Reply, Block, Finish, Then, Transaction}
+use Rattle.sv_app.specs.Trees.{Command, Declare, Assign, Fetch, Choose, ForRows, ForEach, Insert, Fresh, Update, Remove, Abort, Reply, Block, Finish, Then, Transaction}
 use Rattle.sv_app.specs.Units.{units}
 use Rattle.sv_effect.specs.RunChanges.{Effect}
 
@@ -18,6 +18,7 @@ abbrev mutual
   command_changes (ForRows r t c body) = []
   command_changes (ForEach x l body) = []
   command_changes (Insert t vs) = (t.num, acts.Insert) ∷ []
+  command_changes (Fresh x t vs) = (t.num, acts.Fresh) ∷ []
   command_changes (Update t k ss) = (t.num, acts.Update) ∷ []
   command_changes (Remove t k) = (t.num, acts.Remove) ∷ []
   command_changes (Abort n) = []

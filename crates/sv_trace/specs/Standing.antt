@@ -1,6 +1,6 @@
 -- A run of an accepted transaction on arguments that fit, over no tables but its own rows: what holds wherever it stands, and what statements, blocks
 -- and turns of loops make of that.
-use Rattle.std.specs.Prelude.{◌≡◌, ◌⊎◌, ◌≤◌, ℕ, Bool, true, List, [], ◌∷◌, ◌++◌, length, map, Option, Some, None, slice_get}
+use Rattle.std.specs.Prelude.{ℤ, ◌≡◌, ◌⊎◌, ◌≤◌, ℕ, Bool, true, List, [], ◌∷◌, ◌++◌, length, map, Option, Some, None, slice_get}
 use Rattle.std.specs.FinMap.{get}
 use Rattle.std.specs.List.{All}
 use Rattle.sv_value.specs.declared.values.Val.{Val}
@@ -15,6 +15,7 @@ use Rattle.sv_app.specs.declared.names.Meaning.{Meaning}
 use Rattle.sv_app.specs.declared.names.Meaning.TheVariants.{Parameter, Row as RowOf, Constant}
 use Rattle.sv_app.specs.declared.places.Place.{Place}
 use Rattle.sv_app.specs.declared.requests.Arg.{Arg}
+use Rattle.sv_app.specs.declared.schemas.Column.{Column}
 use Rattle.sv_app.specs.declared.schemas.Ty.{Ty}
 use Rattle.sv_app.specs.declared.schemas.Ty.TheVariants as types
 use Rattle.sv_app.specs.Accepted.{AcceptedApp}
@@ -50,6 +51,7 @@ use Rattle.sv_app.specs.Trees.{
   ForRows,
   ForEach,
   Insert,
+  Fresh,
   Update,
   Remove,
   Abort,
@@ -64,15 +66,17 @@ use Rattle.sv_app.specs.Units.{units, loop_variables, unit_of}
 use Rattle.sv_effect.specs.Fits.{EffectFits}
 use Rattle.sv_effect.specs.RowsFit.{KeyIsOf}
 use Rattle.sv_effect.specs.Run.{Stand}
+use Rattle.sv_effect.specs.RunChanges.{outside_key}
 use Rattle.sv_effect.specs.RunValues.{nothing, Progress, Scope as Values}
 
--- a transaction of an application, and arguments
+-- a transaction of an application, arguments, and the first key that is drawn
 pub record Frame : Type 0 where
   pub schema : List Declaration
   pub txns : List Transaction
   pub number : ℕ
   pub txn : Transaction
   pub args : List Arg
+  pub first : ℤ
 
 -- the application is accepted, and the arguments fit the parameters
 pub record IsFrame (f : Frame) : Type 0 where
@@ -139,6 +143,11 @@ Allows schema table act = (d : Declaration) → slice_get schema table.num ≡ S
 abbrev pub AreOfColumns : Frame → Ident → List Term → Type 0
 AreOfColumns f table es = (d : Declaration) → slice_get f.schema table.num ≡ Some d → map (λ e. type_of f.schema (names_in f) 0 e) es ≡ map (λ c. c.ty) d.columns
 
+-- the values of a row whose key is drawn are of the types of the columns but the key
+abbrev pub AreDrawn : Frame → Ident → List Term → Type 0
+AreDrawn f table es = (d : Declaration) → slice_get f.schema table.num ≡ Some d
+    → map (λ e. type_of f.schema (names_in f) 0 e) es ≡ map (λ (c : ℕ × Column). c.1.ty) (outside_key d 0 d.columns)
+
 -- each set of an update is of its column's type
 abbrev pub SetsSuit : Frame → Scope → Ident → List (Ident × Term) → Type 0
 SetsSuit f at table [] = Unit {0}
@@ -167,6 +176,7 @@ abbrev mutual
   Suits f at (ForRows r t test body) = TableIs f r t × IsUnit f r body × BlockSuits f (knowing at r (RowOf t)) body
   Suits f at (ForEach x l body) = TypeIs f x types.Int × IsUnit f x body × BlockSuits f (knowing at x Constant) body
   Suits f at (Insert t es) = AllRead at es × Allows f.schema t acts.Insert × AreOfColumns f t es
+  Suits f at (Fresh x t es) = AllRead at es × Allows f.schema t acts.Fresh × AreDrawn f t es × TypeIs f x types.Int
   Suits f at (Update t k sets) = AllRead at k × Allows f.schema t acts.Update × SetsSuit f (behind_set at t) t sets
   Suits f at (Remove t k) = AllRead at k × Allows f.schema t acts.Remove
   Suits f at (Abort n) = Unit {0}
