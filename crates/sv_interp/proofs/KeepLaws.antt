@@ -6,14 +6,13 @@ use Rattle.sv_value.specs.declared.values.Key.{Key}
 use Rattle.sv_value.specs.declared.values.Val.{Val}
 use Rattle.sv_value.specs.declared.values.Val.TheVariants.{Int}
 use Rattle.sv_app.specs.declared.apps.Ident.{Ident}
-use Rattle.sv_app.specs.declared.names.Meaning.TheVariants.{Row as RowOf, Constant}
 use Rattle.sv_app.specs.declared.places.Place.{Place}
 use Rattle.sv_app.specs.declared.requests.Arg.{Arg}
 use Rattle.sv_app.specs.declared.requests.Arg.TheVariants as args
 use Rattle.sv_app.specs.declared.schemas.Ty.TheVariants as types
 use Rattle.sv_app.specs.Fitting.{HasType}
 use Rattle.sv_app.specs.Schema.{Declaration}
-use Rattle.sv_app.specs.Scopes.{Scope, knowing}
+use Rattle.sv_app.specs.Scopes.{Scope}
 use Rattle.sv_app.specs.Tables.{Row, Tables}
 use Rattle.sv_app.specs.Trees.{Term, Test, Command, Declare, Assign, Fetch, Choose, ForRows, ForEach, Insert, Update, Remove, Reply, Block, Finish, Then}
 use Rattle.sv_app.specs.TxnTyping.{behind}
@@ -22,18 +21,21 @@ use Rattle.sv_effect.specs.declared.outcomes.Outcome.{Outcome}
 use Rattle.sv_effect.specs.declared.outcomes.Outcome.TheVariants as outcomes
 use Rattle.sv_effect.specs.declared.left.LeftRow.{LeftRow}
 use Rattle.sv_effect.specs.Overlays.{over, left_row, left_rows, FoundFits}
-use Rattle.sv_effect.specs.Run.{Stand, Flow, Goes, Ends, Setting, run_command, with_scope, with_row, with_value, place_of_row, on_present, inserted, updated, removed, begun, closed, left_loop, items_of}
+use Rattle.sv_effect.specs.Run.{Stand, Flow, Goes, Ends, Setting, run_command, with_scope, with_row, place_of_row, on_present, inserted, updated, removed, closed, left_loop, items_of}
 use Rattle.sv_effect.specs.RunChanges.{key_in}
 use Rattle.sv_effect.specs.RunValues.{Progress, Gives, values_of, truth_of}
 use Rattle.sv_interp.specs.declared.states.State.{State}
-use Rattle.sv_interp.specs.Machine.{scope_of, evaluated, stand, flow_of}
-use Rattle.sv_interp.specs.Keeping.{calm, AreIntegers, RowLoopIn, ItemLoopIn, Part, Statements, Statement, Turn, RowTurns, ItemTurns, RowLoop, ItemLoop, Keeps, AreFit, LooksUp}
-use Rattle.sv_trace.specs.Standing.{Frame, RowAt, BlockIn, Holds, Passes, Makes, Turned}
+use Rattle.sv_interp.specs.declared.scopes.Progress.{Progress as Began}
+use Rattle.sv_interp.specs.declared.settings.Turn.{Turn}
+use Rattle.sv_interp.specs.Machine.{progress_of, scope_of, evaluated, stand, calm, flow_of}
+use Rattle.sv_interp.specs.Keeping.{Closes, Part, Statements, Statement, Inside, Turns, Loop, Keeps, AreFit, LooksUp}
+use Rattle.sv_interp.specs.Turning.{item_turns, row_turns, AreRowTurns, ItemTurnIn, RowTurnIn, TurnIn, TurnsIn, BegunTurn, InTurn, Begins}
+use Rattle.sv_trace.specs.Standing.{Frame, RowAt, BlockIn, CommandIn, Holds, Passes, Makes, Turned}
 use Rattle.sv_interp.proofs.LookLaws.{found_fits}
 use Rattle.sv_trace.proofs.BlockLaws.{first_in, rest_in, passes_finish, passes_then}
 use Rattle.sv_trace.proofs.ChangeLaws.{own_rows_fit, makes_remove}
 use Rattle.sv_trace.proofs.InsertLaws.{makes_insert}
-use Rattle.sv_trace.proofs.LoopLaws.{yes_in, no_in, test_holds, makes_yes, makes_no, rows_in, items_in, row_begins, item_begins, row_turn_closes, item_turn_closes, turned_none, turned_more, makes_rows, makes_items}
+use Rattle.sv_trace.proofs.LoopLaws.{yes_in, no_in, test_holds, makes_yes, makes_no, turned_none, turned_more, makes_rows, makes_items}
 use Rattle.sv_trace.proofs.StatementLaws.{makes_declare, makes_assign, makes_fetch, makes_reply}
 use Rattle.sv_trace.proofs.UpdateLaws.{makes_update}
 
@@ -88,140 +90,110 @@ keeps_reply is_of g d e s end s' same ran = keeps_same is_of g d (Reply e) s end
 pub ruleset commands = (keeps_ended, keeps_same, keeps_declare, keeps_assign, keeps_reply)
 
 -- a choice
-pub keeps_yes : (is_of : List Declaration → Type 0) (g : Setting) (test : Test) (ys ns : Block) (s u w : State) (found : Option Bool) (holds : Bool) (end : Option Outcome)
-    → truth_of test (scope_of s.scope) ≡ evaluated found u.scope → found ≡ Some holds → holds ≡ true → calm u ≡ with_scope (calm s) (scope_of u.scope)
-    → Keeps is_of g (Statements ys) u end w → Keeps is_of g (Statement (Choose test ys ns)) s end w
-keeps_yes is_of g test ys ns s u w found holds end e z h after more = record {
+pub keeps_yes : (is_of : List Declaration → Type 0) (g : Setting) (d : Command) (test : Test) (ys ns : Block) (s u w : State) (found : Option Bool) (holds : Bool) (end : Option Outcome)
+    → d ≡ Choose test ys ns → truth_of test (scope_of s.scope) ≡ evaluated found u.scope → found ≡ Some holds → holds ≡ true → calm u ≡ with_scope (calm s) (scope_of u.scope)
+    → Keeps is_of g (Statements ys) u end w → Keeps is_of g (Statement d) s end w
+keeps_yes is_of g d test ys ns s u w found holds end i e z h after more = keeps_same is_of g d (Choose test ys ns) s end w i (record {
   keeps = λ f at frame setting own inside stands none.
       let gives : truth_of test (scope_of s.scope) ≡ Gives true (scope_of u.scope) = e ∙ ap (λ o. evaluated o u.scope) (z ∙ ap (λ b. Some b) h) in
       let here : Holds f at (calm u) = subst (Holds f at) (sym after) (test_holds f at test ys ns (calm s) true (scope_of u.scope) inside stands gives) in
       let passed : Passes f at ys (calm u) (calm w) = more.keeps f at frame setting own (yes_in f at test ys ns inside) here none in
       makes_yes f at test ys ns (calm s) (scope_of u.scope) (calm w) inside stands gives (subst (λ st. Passes f at ys st (calm w)) after passed);
-}
+})
 
-pub keeps_no : (is_of : List Declaration → Type 0) (g : Setting) (test : Test) (ys ns : Block) (s u w : State) (found : Option Bool) (holds : Bool) (end : Option Outcome)
-    → truth_of test (scope_of s.scope) ≡ evaluated found u.scope → found ≡ Some holds → holds ≡ false → calm u ≡ with_scope (calm s) (scope_of u.scope)
-    → Keeps is_of g (Statements ns) u end w → Keeps is_of g (Statement (Choose test ys ns)) s end w
-keeps_no is_of g test ys ns s u w found holds end e z h after more = record {
+pub keeps_no : (is_of : List Declaration → Type 0) (g : Setting) (d : Command) (test : Test) (ys ns : Block) (s u w : State) (found : Option Bool) (holds : Bool) (end : Option Outcome)
+    → d ≡ Choose test ys ns → truth_of test (scope_of s.scope) ≡ evaluated found u.scope → found ≡ Some holds → holds ≡ false → calm u ≡ with_scope (calm s) (scope_of u.scope)
+    → Keeps is_of g (Statements ns) u end w → Keeps is_of g (Statement d) s end w
+keeps_no is_of g d test ys ns s u w found holds end i e z h after more = keeps_same is_of g d (Choose test ys ns) s end w i (record {
   keeps = λ f at frame setting own inside stands none.
       let gives : truth_of test (scope_of s.scope) ≡ Gives false (scope_of u.scope) = e ∙ ap (λ o. evaluated o u.scope) (z ∙ ap (λ b. Some b) h) in
       let here : Holds f at (calm u) = subst (Holds f at) (sym after) (test_holds f at test ys ns (calm s) false (scope_of u.scope) inside stands gives) in
       let passed : Passes f at ns (calm u) (calm w) = more.keeps f at frame setting own (no_in f at test ys ns inside) here none in
       makes_no f at test ys ns (calm s) (scope_of u.scope) (calm w) inside stands gives (subst (λ st. Passes f at ns st (calm w)) after passed);
-}
-
-pub ruleset choices = (keeps_ended, keeps_yes, keeps_no)
+})
 
 -- a turn of a loop
 pub keeps_closing : (is_of : List Declaration → Type 0) (g : Setting) (body : Block) (outer : Progress) (s u w : State) (one : Option Outcome)
-    → Keeps is_of g (Statements body) s one u → one ≡ None → ((t : Tables) → stand t w ≡ closed outer (stand t u)) → Keeps is_of g (Turn body outer) s None w
+    → Keeps is_of g (Statements body) s one u → one ≡ None → ((t : Tables) → stand t w ≡ closed outer (stand t u)) → Keeps is_of g (Inside body outer) s None w
 keeps_closing is_of g body outer s u w one k z e = record {
   keeps = λ f at frame setting own inside holds none. record { mid = calm u; passes = k.keeps f at frame setting own inside holds z; closes = e empty };
 }
 
 pub ruleset closings = (keeps_ended, keeps_closing)
 
-pub keeps_item : (is_of : List Declaration → Type 0) (g : Setting) (unit variable : ℕ) (v : Val) (body : Block) (outer : Progress) (s x u w : State) (end : Option Outcome)
-    → outer ≡ (stand empty s).scope.progress → ((t : Tables) → stand t x ≡ begun unit (stand t s)) → calm u ≡ with_scope (calm x) (with_value variable v (calm x).scope)
-    → Keeps is_of g (Turn body outer) u end w → Keeps is_of g (ItemTurns unit variable (v ∷ []) body) s end w
-keeps_item is_of g unit variable v body outer s x u w end out begins binds more = record {
+pub keeps_turn : (is_of later : List Declaration → Type 0) (g : Setting) (d : Turn) (body : Block) (s u w : State) (found : Option Began) (outer : Began) (end : Option Outcome)
+    → Begins is_of d s found u → found ≡ Some outer → ((schema : List Declaration) → is_of schema → later schema) → Keeps later g (Inside body (progress_of outer)) u end w → Keeps is_of g (Turns (d ∷ []) body) s end w
+keeps_turn is_of later g d body s u w found outer end begun z same more = record {
   keeps = λ f at frame setting own inside holds none.
-      let starts : calm u ≡ with_scope (begun unit (calm s)) (with_value inside.name.num v (begun unit (calm s)).scope) =
-      binds ∙ ap (λ q. with_scope q (with_value variable v q.scope)) (begins empty) ∙ ap (λ n. with_scope (begun unit (calm s)) (with_value n v (begun unit (calm s)).scope)) inside.same_variable in
-      let here = subst (Holds f (knowing at inside.name Constant)) (sym starts) (item_begins f at inside.name inside.list body unit v (calm s) inside.command holds inside.integers.0) in
-      let done = more.keeps f (knowing at inside.name Constant) frame setting own (items_in f at inside.name inside.list body inside.command) here none in
-      let unit_is : unit ≡ unit_of (loop_variables f.txn.body) inside.name.num = inside.same_unit ∙ ap (unit_of (loop_variables f.txn.body)) inside.same_variable in
-      subst (Turned f at (calm s)) (sym (done.closes ∙ ap (λ o. closed o done.mid) out))
-      (item_turn_closes f at inside.name inside.list body unit v (calm s) done.mid inside.command unit_is (subst (λ st. Passes f (knowing at inside.name Constant) body st done.mid) starts done.passes));
+      let first : InTurn f at body (calm s) (progress_of outer) (calm u) = subst (λ q. BegunTurn f at body (calm s) q (calm u)) z (begun.begins f at body own inside.0 holds) in
+      let done : Closes f first.inner body (progress_of outer) (calm u) (calm w) = more.keeps f first.inner frame setting (same f.schema own) first.inside first.holds none in
+      subst (Turned f at (calm s)) (sym done.closes) (first.closes done.mid done.passes);
 }
 
-pub keeps_row : (is_of later : List Declaration → Type 0) (g : Setting) (unit r table : ℕ) (k : Key) (body : Block) (outer : Progress) (s x u w : State) (own : List (Place × LeftRow)) (found : Option LeftRow) (row : LeftRow) (end : Option Outcome)
-    → FoundFits is_of own (record { table = table; key = k }) (left_rows found) → own ≡ s.own.items → found ≡ Some row
-    → outer ≡ (stand empty s).scope.progress → ((t : Tables) → stand t x ≡ begun unit (stand t s)) → ((t : Tables) → stand t u ≡ with_scope (stand t x) (with_row r row.values (stand t x).scope))
-    → ((schema : List Declaration) → is_of schema → later schema) → Keeps later g (Turn body outer) u end w → Keeps is_of g (RowTurns unit r table body) s end w
-keeps_row is_of later g unit r table k body outer s x u w own found row end fits own_is e out begins binds same more = record {
-  keeps = λ f at frame setting is inside holds none.
-      let at_place : RowAt f.schema (record { table = inside.of_table.num; key = k }) (Some (left_row row)) =
-      subst (λ n. RowAt f.schema (record { table = n; key = k }) (Some (left_row row))) inside.same_table (subst (λ o. RowAt f.schema (record { table = table; key = k }) (left_rows o)) e
-      (found_fits is_of f.schema own (record { table = table; key = k }) (left_rows found) fits is (subst (λ l. AreFit f.schema (over l empty)) (sym own_is) (λ p. own_rows_fit f at (calm s) p (get (calm s).tables p) holds refl)))) in
-      let starts : calm u ≡ with_scope (begun unit (calm s)) (with_row inside.variable.num row.values (begun unit (calm s)).scope) =
-      binds empty ∙ ap (λ q. with_scope q (with_row r row.values q.scope)) (begins empty) ∙ ap (λ n. with_scope (begun unit (calm s)) (with_row n row.values (begun unit (calm s)).scope)) inside.same_row in
-      let here = subst (Holds f (knowing at inside.variable (RowOf inside.of_table))) (sym starts) (row_begins f at inside.variable inside.of_table inside.condition body unit k (left_row row) (calm s) inside.command holds at_place) in
-      let done = more.keeps f (knowing at inside.variable (RowOf inside.of_table)) frame setting (same f.schema is) (rows_in f at inside.variable inside.of_table inside.condition body inside.command) here none in
-      let unit_is : unit ≡ unit_of (loop_variables f.txn.body) inside.variable.num = inside.same_unit ∙ ap (unit_of (loop_variables f.txn.body)) inside.same_row in
-      subst (Turned f at (calm s)) (sym (done.closes ∙ ap (λ o. closed o done.mid) out))
-      (row_turn_closes f at inside.variable inside.of_table inside.condition body unit (left_row row) (calm s) done.mid inside.command unit_is (subst (λ st. Passes f (knowing at inside.variable (RowOf inside.of_table)) body st done.mid) starts done.passes));
+pub keeps_skip : (is_of : List Declaration → Type 0) (g : Setting) (d : Turn) (body : Block) (s u : State) (found : Option Began)
+    → Begins is_of d s found u → found ≡ None → Keeps is_of g (Turns (d ∷ []) body) s None u
+keeps_skip is_of g d body s u found begun z = record {
+  keeps = λ f at frame setting own inside holds none. subst (λ q. BegunTurn f at body (calm s) q (calm u)) z (begun.begins f at body own inside.0 holds);
 }
+
+pub ruleset entries = (keeps_ended, keeps_turn, keeps_skip)
 
 -- no turn, and one turn more
-pub rows_none : (is_of : List Declaration → Type 0) (g : Setting) (unit r table : ℕ) (body : Block) (s : State) → Keeps is_of g (RowTurns unit r table body) s None s
-rows_none is_of g unit r table body s = record { keeps = λ f at frame setting own inside holds none. turned_none f at (calm s) holds }
+pub turns_none : (is_of : List Declaration → Type 0) (g : Setting) (ts : List Turn) (body : Block) (s : State) → Keeps is_of g (Turns ts body) s None s
+turns_none is_of g ts body s = record { keeps = λ f at frame setting own inside holds none. turned_none f at (calm s) holds }
 
-pub items_none : (is_of : List Declaration → Type 0) (g : Setting) (unit variable : ℕ) (items : List Val) (body : Block) (s : State) → Keeps is_of g (ItemTurns unit variable items body) s None s
-items_none is_of g unit variable items body s = record { keeps = λ f at frame setting own inside holds none. turned_none f at (calm s) holds }
+turn_among : (f : Frame) (at : Scope) (body : Block) (ts : List Turn) (i : ℕ) (d : Turn) → TurnsIn f at body ts → i < length ts → TurnIn f at body (get_or ts i d)
+turn_among f at body [] i d all h = absurd (omega (arith, h))
+turn_among f at body (t ∷ ts) zero d all h = all.0
+turn_among f at body (t ∷ ts) (suc i) d all h = turn_among f at body ts i d all.1 (let less : i < length ts = omega (arith, h) in less)
 
-pub rows_more : (is_of later : List Declaration → Type 0) (g : Setting) (unit r table : ℕ) (body : Block) (s u w : State) (one : Option Outcome)
-    → Keeps is_of g (RowTurns unit r table body) s None u → ((schema : List Declaration) → is_of schema → later schema) → Keeps later g (RowTurns unit r table body) u one w → one ≡ None
-    → Keeps is_of g (RowTurns unit r table body) s None w
-rows_more is_of later g unit r table body s u w one before same more z = record {
+pub turns_more : (is_of later : List Declaration → Type 0) (g : Setting) (ts : List Turn) (body : Block) (i : ℕ) (d v : Turn) (s u w : State) (one : Option Outcome)
+    → Keeps is_of g (Turns ts body) s None u → i < length ts → v ≡ get_or ts i d → ((schema : List Declaration) → is_of schema → later schema)
+    → Keeps later g (Turns (v ∷ []) body) u one w → one ≡ None → Keeps is_of g (Turns ts body) s None w
+turns_more is_of later g ts body i d v s u w one before h e same more z = record {
   keeps = λ f at frame setting own inside holds none.
       let first : Turned f at (calm s) (calm u) = before.keeps f at frame setting own inside holds refl in
-      turned_more f at (calm s) (calm u) (calm w) first (more.keeps f at frame setting (same f.schema own) inside first.holds z);
+      let within : TurnIn f at body v = subst (TurnIn f at body) (sym e) (turn_among f at body ts i d inside h) in
+      turned_more f at (calm s) (calm u) (calm w) first (more.keeps f at frame setting (same f.schema own) (within, tt) first.holds z);
 }
 
-item_among : (items : List Val) (i : ℕ) (d : Val) → AreIntegers items → i < length items → HasType types.Int (get_or items i d)
-item_among [] i d all h = absurd (omega (arith, h))
-item_among (v ∷ items) zero d all h = all.0
-item_among (v ∷ items) (suc i) d all h = item_among items i d all.1 (let less : i < length items = omega (arith, h) in less)
-
-pub items_more : (is_of later : List Declaration → Type 0) (g : Setting) (unit variable : ℕ) (items : List Val) (body : Block) (i : ℕ) (d v : Val) (s u w : State) (one : Option Outcome)
-    → Keeps is_of g (ItemTurns unit variable items body) s None u → i < length items → v ≡ get_or items i d → ((schema : List Declaration) → is_of schema → later schema)
-    → Keeps later g (ItemTurns unit variable (v ∷ []) body) u one w → one ≡ None → Keeps is_of g (ItemTurns unit variable items body) s None w
-items_more is_of later g unit variable items body i d v s u w one before h e same more z = record {
-  keeps = λ f at frame setting own inside holds none.
-      let first : Turned f at (calm s) (calm u) = before.keeps f at frame setting own inside holds refl in
-      let one_in : ItemLoopIn f at unit variable (v ∷ []) body = record {
-        name = inside.name;
-        list = inside.list;
-        command = inside.command;
-        same_variable = inside.same_variable;
-        same_unit = inside.same_unit;
-        integers = (subst (HasType types.Int) (sym e) (item_among items i d inside.integers h), tt);
-      } in
-      turned_more f at (calm s) (calm u) (calm w) first (more.keeps f at frame setting (same f.schema own) one_in first.holds z);
-}
+pub ruleset turning = (keeps_ended, turns_none)
 
 -- a loop
-pub keeps_row_loop : (is_of : List Declaration → Type 0) (g : Setting) (unit r table : ℕ) (body : Block) (s u w : State) (one : Option Outcome)
-    → Keeps is_of g (RowTurns unit r table body) s one u → one ≡ None → ((t : Tables) → left_loop body (stand t u) ≡ Goes (stand t w)) → Keeps is_of g (RowLoop unit r table body) s None w
-keeps_row_loop is_of g unit r table body s u w one k z e = record {
+pub keeps_loop : (is_of : List Declaration → Type 0) (g : Setting) (ts : List Turn) (body : Block) (s u w : State) (one : Option Outcome)
+    → Keeps is_of g (Turns ts body) s one u → one ≡ None → ((t : Tables) → left_loop body (stand t u) ≡ Goes (stand t w)) → Keeps is_of g (Loop ts body) s None w
+keeps_loop is_of g ts body s u w one k z e = record {
   keeps = λ f at frame setting own inside holds none. record { mid = calm u; turned = k.keeps f at frame setting own inside holds z; leaves = e empty };
 }
 
-pub keeps_item_loop : (is_of : List Declaration → Type 0) (g : Setting) (unit variable : ℕ) (items : List Val) (body : Block) (s u w : State) (one : Option Outcome)
-    → Keeps is_of g (ItemTurns unit variable items body) s one u → one ≡ None → ((t : Tables) → left_loop body (stand t u) ≡ Goes (stand t w)) → Keeps is_of g (ItemLoop unit variable items body) s None w
-keeps_item_loop is_of g unit variable items body s u w one k z e = record {
-  keeps = λ f at frame setting own inside holds none. record { mid = calm u; turned = k.keeps f at frame setting own inside holds z; leaves = e empty };
-}
+pub ruleset loops = (keeps_ended, keeps_loop)
 
-pub ruleset loops = (keeps_ended, keeps_row_loop, keeps_item_loop)
+rows_all : (f : Frame) (at : Scope) (body : Block) (u r table : ℕ) (ks : List Key) → RowTurnIn f at u r table body → TurnsIn f at body (row_turns u r table ks)
+rows_all f at body u r table [] inside = tt
+rows_all f at body u r table (k ∷ ks) inside = (inside, rows_all f at body u r table ks inside)
 
-pub keeps_for : (is_of later : List Declaration → Type 0) (g : Setting) (r table : Ident) (test : Option Test) (body : Block) (unit : ℕ) (s w : State) (end : Option Outcome)
-    → unit ≡ unit_of g.loops r.num → ((schema : List Declaration) → is_of schema → later schema) → Keeps later g (RowLoop unit r.num table.num body) s end w → Keeps is_of g (Statement (ForRows r table test body)) s end w
-keeps_for is_of later g r table test body unit s w end u same more = record {
+pub keeps_for : (is_of later : List Declaration → Type 0) (g : Setting) (d : Command) (r table : Ident) (test : Option Test) (body : Block) (ts ls : List Turn) (s w : State) (end : Option Outcome)
+    → d ≡ ForRows r table test body → AreRowTurns (unit_of g.loops r.num) r.num table.num ts → ls ≡ ts → ((schema : List Declaration) → is_of schema → later schema)
+    → Keeps later g (Loop ls body) s end w → Keeps is_of g (Statement d) s end w
+keeps_for is_of later g d r table test body ts ls s w end e kind i same more = keeps_same is_of g d (ForRows r table test body) s end w e (record {
   keeps = λ f at frame setting own inside holds none.
-      let loop : RowLoopIn f at unit r.num table.num body = record {
+      let one : RowTurnIn f at (unit_of g.loops r.num) r.num table.num body = record {
         variable = r;
         of_table = table;
         condition = test;
         command = inside;
         same_row = refl;
         same_table = refl;
-        same_unit = u ∙ ap (λ ls. unit_of ls r.num) setting.loops;
+        same_unit = ap (λ ls. unit_of ls r.num) setting.loops;
       } in
-      let done = more.keeps f at frame setting (same f.schema own) loop holds none in
+      let all : TurnsIn f at body ls = subst (TurnsIn f at body) (sym (i ∙ kind.are)) (rows_all f at body (unit_of g.loops r.num) r.num table.num kind.keys one) in
+      let done = more.keeps f at frame setting (same f.schema own) all holds none in
       makes_rows f at r table test body (calm s) done.mid (calm w) done.turned done.leaves;
-}
+})
+
+abbrev AreIntegers : List Val → Type 0
+AreIntegers [] = Unit {0}
+AreIntegers (v ∷ vs) = HasType types.Int v × AreIntegers vs
 
 all_integers : (ns : List ℤ) → AreIntegers (map (λ n. Int n) ns)
 all_integers [] = tt
@@ -233,21 +205,23 @@ integers (Some (args.Int n)) = tt
 integers (Some (args.Text t)) = tt
 integers (Some (args.Ints ns)) = all_integers ns
 
-pub keeps_each : (is_of : List Declaration → Type 0) (g : Setting) (x list : Ident) (body : Block) (unit : ℕ) (items : List Val) (s w : State) (end : Option Outcome)
-    → unit ≡ unit_of g.loops x.num → items ≡ items_of (slice_get g.arguments list.num) → Keeps is_of g (ItemLoop unit x.num items body) s end w → Keeps is_of g (Statement (ForEach x list body)) s end w
-keeps_each is_of g x list body unit items s w end u same more = record {
+items_all : (f : Frame) (at : Scope) (body : Block) (x list : Ident) (u : ℕ) (vs : List Val) → CommandIn f at (ForEach x list body) → u ≡ unit_of (loop_variables f.txn.body) x.num
+    → AreIntegers vs → TurnsIn f at body (item_turns u x.num vs)
+items_all f at body x list u [] command unit all = tt
+items_all f at body x list u (v ∷ vs) command unit all =
+    let one : ItemTurnIn f at u x.num v body = record { name = x; list = list; command = command; same_variable = refl; same_unit = unit; integer = all.0 } in
+    (one, items_all f at body x list u vs command unit all.1)
+
+pub keeps_each : (is_of : List Declaration → Type 0) (g : Setting) (d : Command) (x list : Ident) (body : Block) (ts ls : List Turn) (s w : State) (end : Option Outcome)
+    → d ≡ ForEach x list body → ts ≡ item_turns (unit_of g.loops x.num) x.num (items_of (slice_get g.arguments list.num)) → ls ≡ ts
+    → Keeps is_of g (Loop ls body) s end w → Keeps is_of g (Statement d) s end w
+keeps_each is_of g d x list body ts ls s w end e are i more = keeps_same is_of g d (ForEach x list body) s end w e (record {
   keeps = λ f at frame setting own inside holds none.
-      let loop : ItemLoopIn f at unit x.num items body = record {
-        name = x;
-        list = list;
-        command = inside;
-        same_variable = refl;
-        same_unit = u ∙ ap (λ ls. unit_of ls x.num) setting.loops;
-        integers = subst AreIntegers (sym same) (integers (slice_get g.arguments list.num));
-      } in
-      let done = more.keeps f at frame setting own loop holds none in
+      let all : TurnsIn f at body ls = subst (TurnsIn f at body) (sym (i ∙ are))
+      (items_all f at body x list (unit_of g.loops x.num) (items_of (slice_get g.arguments list.num)) inside (ap (λ ls. unit_of ls x.num) setting.loops) (integers (slice_get g.arguments list.num))) in
+      let done = more.keeps f at frame setting own all holds none in
       makes_items f at x list body (calm s) done.mid (calm w) done.turned done.leaves;
-}
+})
 
 -- a row that was looked up
 pub finds_ended : (is_of : List Declaration → Type 0) (p : Place) (step : Option Row → Stand → Flow) (s : State) (e : Outcome) (s' : State) → LooksUp is_of p step s (Some e) s'
@@ -330,7 +304,3 @@ keeps_remove is_of g table key p own values vs found row s u w end e z after pla
 }
 
 pub ruleset steps = (keeps_ended, finds_ended, finds)
-
-pub ruleset items = (keeps_ended, items_none, items_more, keeps_item)
-
-pub ruleset rows = (keeps_ended, rows_none, rows_more, keeps_row)

@@ -6,5 +6,6 @@ pub mod MeetLaws
 pub mod NeedLaws
 pub mod RunLaws
 pub mod ResultLaws
+pub mod TurnLaws
 pub mod TxnLaws
 pub mod WriteLaws

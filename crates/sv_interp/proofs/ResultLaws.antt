@@ -17,8 +17,8 @@ use Rattle.sv_effect.specs.declared.outcomes.Ran.{Ran}
 use Rattle.sv_effect.specs.Run.{Goes, Ends, body_of, started, result_of, ran_of}
 use Rattle.sv_effect.specs.RunChanges.{Effect, effect_of}
 use Rattle.sv_interp.specs.declared.states.State.{State}
-use Rattle.sv_interp.specs.Machine.{stand}
-use Rattle.sv_interp.specs.Keeping.{calm, IsSettingOf, Statements, Keeps}
+use Rattle.sv_interp.specs.Machine.{stand, calm}
+use Rattle.sv_interp.specs.Keeping.{IsSettingOf, Statements, Keeps}
 use Rattle.sv_interp.specs.Results.{IsRunnable, IsBodyOf, RunFits, IsEmpty, IsEmptyAfter}
 use Rattle.sv_effect.specs.Fits.{EffectFits}
 use Rattle.sv_trace.specs.Standing.{Frame, BlockIn, Holds, Passes}

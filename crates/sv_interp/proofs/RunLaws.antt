@@ -1,25 +1,22 @@
 -- How steps of a run follow each other.
-use Rattle.std.proofs.Common.{◌≡◌, ◌<◌, ◌≤◌, ◌+◌, length, drop, get_or, ℕ, true, false, List, Option, Some, None, cond, refl, sym, ap, subst, ◌∙◌}
+use Rattle.std.proofs.Common.{◌≡◌, ◌<◌, ◌≤◌, ◌+◌, length, drop, get_or, ℕ, Bool, true, false, List, Option, Some, None, refl, sym, ap, subst, ◌∙◌}
 use Rattle.std.proofs.lemmas.List.{at_drop_more, at_drop_all}
 use Rattle.std.specs.FinMap.{get}
-use Rattle.sv_value.specs.declared.values.Key.{Key}
-use Rattle.sv_app.specs.declared.apps.Ident.{Ident}
 use Rattle.sv_app.specs.declared.places.Place.{Place}
 use Rattle.sv_app.specs.Tables.{Tables}
-use Rattle.sv_app.specs.Trees.{Test, Command, ForRows, Abort, Block, Finish, Then}
+use Rattle.sv_app.specs.Trees.{Test, Command, Choose, Abort, Block, Finish, Then}
 use Rattle.sv_effect.specs.declared.outcomes.Outcome.{Outcome}
-use Rattle.sv_app.specs.Units.{unit_of}
 use Rattle.sv_effect.specs.declared.outcomes.Outcome.TheVariants as outcomes
 use Rattle.sv_effect.specs.declared.left.LeftRow.{LeftRow}
 use Rattle.sv_effect.specs.Faces.{Face}
 use Rattle.sv_effect.specs.Follows.{Follows}
 use Rattle.sv_effect.specs.Overlays.{over, left_rows}
 use Rattle.sv_effect.specs.Reads.{ReadValue}
-use Rattle.sv_effect.specs.Run.{Stand, Flow, Goes, then_do, turns, closed, left_loop, run_command, run_block, Setting, with_scope, with_row, begun, instance, if_present, row_turn, meeting, only, present_keys, on_keys}
-use Rattle.sv_effect.specs.RunValues.{Progress, Scope}
+use Rattle.sv_effect.specs.Run.{Stand, Flow, Goes, then_do, turns, closed, left_loop, run_command, run_block, on_truth, Setting, with_scope}
+use Rattle.sv_effect.specs.RunValues.{Progress, truth_of}
 use Rattle.sv_effect.proofs.FollowLaws as follow
 use Rattle.sv_interp.specs.declared.states.State.{State}
-use Rattle.sv_interp.specs.Machine.{progress_of, scope_of, stand, flow_of, Runs, Reaches, closing, looping}
+use Rattle.sv_interp.specs.Machine.{scope_of, evaluated, stand, flow_of, Runs, Reaches, closing, looping}
 
 -- a step that asks nothing
 pub quiet : (f : Stand → Flow) (o n : Face) (a b : Option (List ReadValue)) (s : State) (end : Option Outcome) (s' : State)
@@ -97,59 +94,27 @@ same_command g d c o n a b s end s' e r = subst (λ x. Runs (run_command g x) o 
 
 pub ruleset commands = (quiet_command, abort_ends, same_command)
 
--- the turn of a row that isn't there, or isn't present
-pub row_absent : (unit r table : ℕ) (k : Key) (body : Stand → Flow) (o n : Face) (a b : Option (List ReadValue)) (s : State) (p : Place) (found : Option LeftRow)
-    → Follows o n a b (λ t. get (over s.own.items t) p ≡ left_rows found) → p ≡ record { table = table; key = k } → found ≡ None → Runs (row_turn unit r table body k) o n a b s None s
-row_absent unit r table k body o n a b s p found f e z =
-    record { ran = follow.so o n a b _ _ f (λ t h. ap (λ q. if_present q (λ row. instance unit (λ y. body (with_scope y (with_row r row.values y.scope)))) (stand t s)) (ap (get (over s.own.items t)) (sym e) ∙ h ∙ ap left_rows z)) }
+-- a test chose a block, or a number left 64 bits
+pub test_ends : (g : Setting) (d : Command) (test : Test) (ys ns : Block) (o n : Face) (a b : Option (List ReadValue)) (s u : State) (found : Option Bool)
+    → d ≡ Choose test ys ns → n ≡ o → b ≡ a → truth_of test (scope_of s.scope) ≡ evaluated found u.scope → found ≡ None → Runs (run_command g d) o n a b s (Some outcomes.Range) u
+test_ends g d test ys ns o n a b s u found e same stands h z = quiet (run_command g d) o n a b s (Some outcomes.Range) u same stands
+    (λ t. ap (λ x. run_command g x (stand t s)) e ∙ ap (λ q. on_truth q (stand t s) (run_block g ys) (run_block g ns)) (h ∙ ap (λ q. evaluated q u.scope) z))
 
-pub row_gone : (unit r table : ℕ) (k : Key) (body : Stand → Flow) (o n : Face) (a b : Option (List ReadValue)) (s : State) (p : Place) (found : Option LeftRow) (row : LeftRow)
-    → Follows o n a b (λ t. get (over s.own.items t) p ≡ left_rows found) → p ≡ record { table = table; key = k } → found ≡ Some row → row.present ≡ false → Runs (row_turn unit r table body k) o n a b s None s
-row_gone unit r table k body o n a b s p found row f e z w =
-    record {
-      ran = follow.so o n a b _ _ f (λ t h. ap (λ q. if_present q (λ row. instance unit (λ y. body (with_scope y (with_row r row.values y.scope)))) (stand t s)) (ap (get (over s.own.items t)) (sym e) ∙ h ∙ ap left_rows z)
-          ∙ ap (λ c. cond c (instance unit (λ y. body (with_scope y (with_row r row.values y.scope))) (stand t s)) (Goes (stand t s))) w);
-    }
+pub yes_runs : (g : Setting) (d : Command) (test : Test) (ys ns : Block) (o n : Face) (a b : Option (List ReadValue)) (s u : State) (found : Option Bool) (end : Option Outcome) (s' : State)
+    → d ≡ Choose test ys ns → truth_of test (scope_of s.scope) ≡ evaluated found u.scope → found ≡ Some true → ((t : Tables) → stand t u ≡ with_scope (stand t s) (scope_of u.scope))
+    → Runs (run_block g ys) o n a b u end s' → Runs (run_command g d) o n a b s end s'
+yes_runs g d test ys ns o n a b s u found end s' e h z after r = record {
+  ran = follow.so o n a b _ _ r.ran (λ t y. ap (λ x. run_command g x (stand t s)) e
+      ∙ ap (λ q. on_truth q (stand t s) (run_block g ys) (run_block g ns)) (h ∙ ap (λ q. evaluated q u.scope) z) ∙ ap (run_block g ys) (sym (after t)) ∙ y);
+}
 
--- the turn of a present row
-pub row_runs : (unit r table : ℕ) (k : Key) (body : Stand → Flow) (o m n : Face) (a b c : Option (List ReadValue)) (s x u : State) (end : Option Outcome) (s' : State) (own : List (Place × LeftRow)) (found : Option LeftRow) (row : LeftRow) (outer : Progress)
-    → Follows o m a b (λ t. get (over own t) (record { table = table; key = k }) ≡ left_rows found) → own ≡ s.own.items → found ≡ Some row → row.present ≡ true
-    → outer ≡ progress_of s.scope.progress → ((t : Tables) → stand t x ≡ begun unit (stand t s)) → ((t : Tables) → stand t u ≡ with_scope (stand t x) (with_row r row.values (stand t x).scope))
-    → Runs (closing outer body) m n b c u end s' → Runs (row_turn unit r table body k) o n a c s end s'
-row_runs unit r table k body o m n a b c s x u end s' own found row outer f e z w out begins binds g =
-    record {
-      ran = follow.next_to o m n a b c _ _ _ f g.ran (λ t h y. ap (λ q. if_present q (λ row. instance unit (λ y. body (with_scope y (with_row r row.values y.scope)))) (stand t s)) (ap (λ l. get (over l t) (record { table = table; key = k })) (sym e) ∙ h ∙ ap left_rows z)
-          ∙ ap (λ c. cond c (instance unit (λ y. body (with_scope y (with_row r row.values y.scope))) (stand t s)) (Goes (stand t s))) w
-          ∙ ap (λ q. then_do (body (with_scope q (with_row r row.values q.scope))) (λ z. Goes (closed (stand t s).scope.progress z))) (sym (begins t))
-          ∙ ap (λ q. then_do (body q) (λ z. Goes (closed (stand t s).scope.progress z))) (sym (binds t))
-          ∙ ap (λ q. then_do (body (stand t u)) (λ z. Goes (closed q z))) (sym out) ∙ y);
-    }
-
-pub ruleset rows = (row_absent, row_gone, row_runs)
-
--- a loop over the rows that meet a condition
-pub for_ends : (g : Setting) (r table : Ident) (test : Option Test) (body : Block) (o m : Face) (a b : Option (List ReadValue)) (s : State) (scope : Scope) (found : Option (List Key))
-    → Follows o m a b (λ t. only (meeting r.num table.num test (over s.own.items t) (present_keys (over s.own.items t) table.num) scope) ≡ found) → scope ≡ scope_of s.scope → found ≡ None
-    → Runs (run_command g (ForRows r table test body)) o m a b s (Some outcomes.Range) s
-for_ends g r table test body o m a b s scope found f e z =
-    record {
-      ran = follow.so o m a b _ _ f (λ t h. ap (λ q. on_keys q (λ ks. then_do (turns ks (row_turn (unit_of g.loops r.num) r.num table.num (run_block g body)) (stand t s)) (left_loop body)))
-          (ap (λ q. only (meeting r.num table.num test (over s.own.items t) (present_keys (over s.own.items t) table.num) q)) (sym e) ∙ h ∙ z));
-    }
-
-pub for_runs : (g : Setting) (r table : Ident) (test : Option Test) (body : Block) (o m n : Face) (a b c : Option (List ReadValue)) (s : State) (own : List (Place × LeftRow)) (scope : Scope) (found : Option (List Key)) (ks ls : List Key) (u : ℕ) (end : Option Outcome) (s' : State)
-    → Follows o m a b (λ t. only (meeting r.num table.num test (over own t) (present_keys (over own t) table.num) scope) ≡ found) → own ≡ s.own.items → scope ≡ scope_of s.scope → found ≡ Some ks → ls ≡ ks
-    → u ≡ unit_of g.loops r.num → Runs (looping ls (row_turn u r.num table.num (run_block g body)) body) m n b c s end s' → Runs (run_command g (ForRows r table test body)) o n a c s end s'
-for_runs g r table test body o m n a b c s own scope found ks ls u end s' f w e z i v l =
-    record {
-      ran = follow.next_to o m n a b c _ _ _ f l.ran (λ t h y. ap (λ q. on_keys q (λ ks. then_do (turns ks (row_turn (unit_of g.loops r.num) r.num table.num (run_block g body)) (stand t s)) (left_loop body)))
-          (ap (λ l. only (meeting r.num table.num test (over l t) (present_keys (over l t) table.num) (scope_of s.scope))) (sym w)
-          ∙ ap (λ q. only (meeting r.num table.num test (over own t) (present_keys (over own t) table.num) q)) (sym e) ∙ h ∙ z)
-          ∙ ap (λ l. then_do (turns l (row_turn (unit_of g.loops r.num) r.num table.num (run_block g body)) (stand t s)) (left_loop body)) (sym i)
-          ∙ ap (λ w. then_do (turns ls (row_turn w r.num table.num (run_block g body)) (stand t s)) (left_loop body)) (sym v) ∙ y);
-    }
-
-pub ruleset fors = (for_ends, for_runs)
+pub no_runs : (g : Setting) (d : Command) (test : Test) (ys ns : Block) (o n : Face) (a b : Option (List ReadValue)) (s u : State) (found : Option Bool) (end : Option Outcome) (s' : State)
+    → d ≡ Choose test ys ns → truth_of test (scope_of s.scope) ≡ evaluated found u.scope → found ≡ Some false → ((t : Tables) → stand t u ≡ with_scope (stand t s) (scope_of u.scope))
+    → Runs (run_block g ns) o n a b u end s' → Runs (run_command g d) o n a b s end s'
+no_runs g d test ys ns o n a b s u found end s' e h z after r = record {
+  ran = follow.so o n a b _ _ r.ran (λ t y. ap (λ x. run_command g x (stand t s)) e
+      ∙ ap (λ q. on_truth q (stand t s) (run_block g ys) (run_block g ns)) (h ∙ ap (λ q. evaluated q u.scope) z) ∙ ap (run_block g ns) (sym (after t)) ∙ y);
+}
 
 -- the turns of a loop
 pub turns_start : {A : Type 0} (xs : List A) (turn : A → Stand → Flow) (o n : Face) (a b : Option (List ReadValue)) (s : State) → n ≡ o → b ≡ a → Reaches xs (drop 0 xs) turn o n a b s s

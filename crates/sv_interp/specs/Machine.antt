@@ -1,6 +1,7 @@
 -- What the interpreter holds, as the meaning of a run speaks of it.
 use Rattle.std.specs.Prelude.{◌≡◌, List, [], ◌∷◌, Option, Some, None, map}
 use Rattle.std.specs.Borrow.{Bor}
+use Rattle.std.specs.FinMap.{empty}
 use Rattle.sv_app.specs.declared.schemas.Table.{Table}
 use Rattle.sv_app.specs.Schema.{Declaration, declaration_of, schema_of}
 use Rattle.sv_app.specs.Tables.{Tables}
@@ -48,6 +49,10 @@ declared (Some table) = Some (declaration_of table.now)
 abbrev pub stand : Tables → State → Stand
 stand t s = record { scope = scope_of s.scope; tables = over s.own.items t; effects = map effect_of s.effects; replies = s.replies; instances = s.instances }
 
+-- where a run stands, over no tables: the rows that it wrote itself are in it
+abbrev pub calm : State → Stand
+calm s = stand empty s
+
 abbrev pub flow_of : Option Outcome → Stand → Flow
 flow_of None st = Goes st
 flow_of (Some o) st = Ends o
@@ -58,6 +63,14 @@ setting_of g = record { schema = schema_of g.tables.now; arguments = g.args.now;
 -- What a step did between two moments, with the rows and with the state: it is what the meaning does, of all tables that agree with the answers given.
 pub record Runs (meaning : Stand → Flow) (face_before face_now : Face) (before now : Option (List ReadValue)) (s : State) (end : Option Outcome) (s' : State) : Type 0 where
   pub ran : Follows face_before face_now before now (λ t. meaning (stand t s) ≡ flow_of end (stand t s'))
+
+-- a call on rows learned a fact of their tables
+abbrev pub Learns : {Rows : Type 0} → (Rows → Face) → (Rows → Option (List ReadValue)) → Rows → Rows → (Tables → Type 0) → Type 0
+Learns face noted before after Fact = Follows (face before) (face after) (noted before) (noted after) Fact
+
+-- a step, with the rows and the state before and after it
+abbrev pub RunsOn : {Rows : Type 0} → (Rows → Face) → (Rows → Option (List ReadValue)) → Rows → Rows → (Stand → Flow) → State → Option Outcome → State → Type 0
+RunsOn face noted before after meaning s end s' = Runs meaning (face before) (face after) (noted before) (noted after) s end s'
 
 -- a block by its first command and the others
 abbrev pub Splits : Block → Option (Bor Stmt × Bor (List Stmt)) → Type 0

@@ -8,12 +8,12 @@ ghost use Rattle.sv_effect.specs.Overlays.{left_row, left_rows};
 ghost use Rattle.sv_interp.specs.Machine.{stand, flow_of};
 
 use crate::inserts::{in_order, inserts};
+use crate::settings::Spot;
 use crate::states::State;
 use crate::writes::{make_writes, sets_made};
 use arrayvec::ArrayVec;
-use std::alloc::Global;
 use sv_app::limits::MOST_EFFECTS;
-use sv_app::{Act, Expr, Got, Ident, Place, Table};
+use sv_app::{Act, Expr, Got, Ident, Place};
 use sv_effect::{LeftRow, Outcome, RowEffect, Write, copy_values, zeros};
 use sv_value::{List, NoMemory, Val};
 
@@ -66,42 +66,34 @@ fn with_writes(values: List<Got>, writes: &[(u16, Write)]) -> Result<List<Got>, 
 
 /// Updates a row.
 pub fn update_row(
-    alloc: Global,
-    table: &Table,
-    place: &Place,
+    spot: &Spot<'_>,
     sets: &[(Ident, Expr)],
     row: LeftRow,
     state: &mut State,
 ) -> Result<Option<Outcome>, NoMemory>
-    requires { length (declaration_of table.now).columns ≤ 16 }
-    ensures { IfOk result (λ end. (t : Tables) → updated (declaration_of table.now) place.now (sets_of sets.now) (stand t state.old) (left_row row) ≡ flow_of end (stand t state.new)) }
+    ensures { IfOk result (λ end. (t : Tables) → updated (declaration_of spot.now.table.now) spot.now.place (sets_of sets.now) (stand t state.old) (left_row row) ≡ flow_of end (stand t state.new)) }
 {
-    state.start_update(alloc, copy_values(alloc, row.values.items())?);
-    let Some(made) = sets_made(alloc, &table.columns, sets, &mut state.scope)? else {
+    state.start_update(spot.alloc, copy_values(spot.alloc, row.values.items())?);
+    let Some(made) = sets_made(spot.alloc, &spot.table.columns, sets, &mut state.scope)? else {
         return Ok(Some(Outcome::Range));
     };
-    let writes = in_order(alloc, table, 0, &table.columns, made.items())?;
+    let writes = in_order(spot.alloc, spot.table, 0, &spot.table.columns, made.items())?;
     let values = with_writes(row.values, writes.items())?;
     let left = LeftRow {
         values,
         present: true,
     };
-    state.end_update(alloc);
-    change(state, place, Act::Update, writes.items(), left)
+    state.end_update(spot.alloc);
+    change(state, &spot.place, Act::Update, writes.items(), left)
 }
 
 /// The values that an insert finds.
-fn kept_values(
-    alloc: Global,
-    table: &Table,
-    place: &Place,
-    row: Option<LeftRow>,
-) -> Result<List<Got>, NoMemory>
-    ensures { IfOk result (λ kept. kept ≡ kept_values (declaration_of table.now) place.now.key (left_rows row)) }
+fn kept_values(spot: &Spot<'_>, row: Option<LeftRow>) -> Result<List<Got>, NoMemory>
+    ensures { IfOk result (λ kept. kept ≡ kept_values (declaration_of spot.now.table.now) spot.now.place.key (left_rows row)) }
 {
     match row {
         Some(row) => Ok(row.values),
-        None => zeros(alloc, table, &place.key),
+        None => zeros(spot.alloc, spot.table, &spot.place.key),
     }
 }
 
@@ -116,27 +108,24 @@ fn stands(row: &Option<LeftRow>) -> bool
 
 /// Inserts a row, where none is present.
 pub fn insert_row(
-    alloc: Global,
-    table: &Table,
-    place: &Place,
+    spot: &Spot<'_>,
     vals: &[Val],
     row: Option<LeftRow>,
     state: &mut State,
 ) -> Result<Option<Outcome>, NoMemory>
-    requires { length (declaration_of table.now).columns ≤ 16 }
-    ensures { IfOk result (λ end. (t : Tables) → inserted (declaration_of table.now) place.now vals.now (left_rows row) (stand t state.old) ≡ flow_of end (stand t state.new)) }
+    ensures { IfOk result (λ end. (t : Tables) → inserted (declaration_of spot.now.table.now) spot.now.place vals.now (left_rows row) (stand t state.old) ≡ flow_of end (stand t state.new)) }
 {
     if stands(&row) {
         return Ok(Some(Outcome::Exists));
     }
-    let kept = kept_values(alloc, table, place, row)?;
+    let kept = kept_values(spot, row)?;
     let Some(writes) = inserts(
-        alloc,
-        table,
+        spot.alloc,
+        spot.table,
         vals,
         kept.items(),
         0,
-        &table.columns,
+        &spot.table.columns,
         &mut state.scope,
     )?
     else {
@@ -147,7 +136,7 @@ pub fn insert_row(
         values,
         present: true,
     };
-    change(state, place, Act::Insert, writes.items(), left)
+    change(state, &spot.place, Act::Insert, writes.items(), left)
 }
 
 /// Removes a row: it is kept, and no longer present.

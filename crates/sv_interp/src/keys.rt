@@ -3,13 +3,13 @@ ghost use Rattle.std.specs.FinMap.{get};
 ghost use Rattle.std.specs.Option.{option_map};
 ghost use Rattle.sv_app.specs.Trees.{test_of};
 ghost use Rattle.sv_effect.specs.Asked.{Asked};
-ghost use Rattle.sv_effect.specs.Follows.{Follows};
 ghost use Rattle.sv_effect.specs.Overlays.{over, left_rows};
 ghost use Rattle.sv_effect.specs.Run.{with_row, values_at, kept_if, meeting_test, meeting, only, present_keys};
 ghost use Rattle.sv_effect.specs.RunValues.{truth_of};
-ghost use Rattle.sv_interp.specs.Machine.{scope_of, evaluated};
+ghost use Rattle.sv_interp.specs.Machine.{Learns, scope_of, evaluated};
 
 use crate::scopes::Scope;
+use crate::settings::Selection;
 use crate::slots::put_row;
 use crate::values::truth;
 use std::alloc::Global;
@@ -26,25 +26,37 @@ fn values_of(alloc: Global, found: Option<LeftRow>) -> List<Got>
     }
 }
 
-/// Whether the row at a place meets the condition.
+/// The condition that rows of a table have to meet, under the name of their variable, over the rows that the run wrote.
+#[derive(Debug, Drop)]
+struct Filter<'a> {
+    alloc: Global,
+    own: &'a [(Place, LeftRow)],
+    row: u16,
+    table: u16,
+    test: &'a Cond,
+}
+
+/// Whether the row of a key meets the condition.
 #[tactic(auto, using(crate::proofs::MeetLaws::row_meets))]
 fn meets<R: Rows>(
-    alloc: Global,
-    own: &[(Place, LeftRow)],
-    row: u16,
-    place: &Place,
-    test: &Cond,
+    filter: &Filter<'_>,
+    key: &Key,
     scope: &mut Scope,
     rows: &mut R,
 ) -> Result<Option<bool>, Halt>
-    ensures followed { IfOk result (λ holds. Follows (R.face rows.old) (R.face rows.new) (R.noted rows.old) (R.noted rows.new)
-        (λ t. truth_of (test_of test.now) (with_row row (values_at (get (over own.now t) place.now)) (scope_of scope.old)) ≡ evaluated holds scope.new)) }
+    ensures followed { IfOk result (λ holds. Learns R.face R.noted rows.old rows.new (λ t.
+        truth_of (test_of filter.now.test.now) (with_row filter.now.row (values_at (get (over filter.now.own.now t)
+        (record { table = filter.now.table; key = key.now }))) (scope_of scope.old)) ≡ evaluated holds scope.new)) }
     ensures asked { Asked R.stays R.face rows.old rows.new result }
 {
-    let found = look(alloc, own, rows, place)?;
-    let values = values_of(alloc, found);
-    put_row(alloc, &mut scope.rows, row, values)?;
-    let holds = truth(test, scope)?;
+    let place = Place {
+        table: filter.table,
+        key: *key,
+    };
+    let found = look(filter.alloc, filter.own, rows, &place)?;
+    let values = values_of(filter.alloc, found);
+    put_row(filter.alloc, &mut scope.rows, filter.row, values)?;
+    let holds = truth(filter.test, scope)?;
     Ok(holds)
 }
 
@@ -61,23 +73,19 @@ fn put_if(holds: bool, key: &Key, keys: &mut List<Key>) -> Result<(), NoMemory>
 /// Those of the keys whose rows meet the condition; none where a number leaves 64 bits.
 #[tactic(auto, using(crate::proofs::MeetLaws::rows_meet))]
 fn meet<R: Rows>(
-    alloc: Global,
-    own: &[(Place, LeftRow)],
-    row: u16,
-    table: u16,
-    test: &Cond,
+    filter: &Filter<'_>,
     keys: &[Key],
     scope: &mut Scope,
     rows: &mut R,
 ) -> Result<Option<List<Key>>, Halt>
-    ensures followed { IfOk result (λ met. Follows (R.face rows.old) (R.face rows.new) (R.noted rows.old) (R.noted rows.new)
-        (λ t. meeting_test row table (test_of test.now) (over own.now t) keys.now (scope_of scope.old) ≡ evaluated met scope.new)) }
+    ensures followed { IfOk result (λ met. Learns R.face R.noted rows.old rows.new (λ t.
+        meeting_test filter.now.row filter.now.table (test_of filter.now.test.now) (over filter.now.own.now t) keys.now
+        (scope_of scope.old) ≡ evaluated met scope.new)) }
     ensures asked { Asked R.stays R.face rows.old rows.new result }
 {
-    let mut met = List::new(alloc);
+    let mut met = List::new(filter.alloc);
     for key in keys {
-        let place = Place { table, key: *key };
-        let Some(holds) = meets(alloc, own, row, &place, test, scope, rows)? else {
+        let Some(holds) = meets(filter, key, scope, rows)? else {
             return Ok(None);
         };
         put_if(holds, key, &mut met)?;
@@ -89,32 +97,29 @@ fn meet<R: Rows>(
 #[tactic(auto, using(crate::proofs::MeetLaws::all_meet))]
 pub fn met_keys<R: Rows>(
     alloc: Global,
-    row: u16,
-    table: u16,
-    cond: &Option<Cond>,
+    selection: &Selection<'_>,
     own: &[(Place, LeftRow)],
     scope: Scope,
     rows: &mut R,
 ) -> Result<Option<List<Key>>, Halt>
-    ensures followed { IfOk result (λ keys. Follows (R.face rows.old) (R.face rows.new) (R.noted rows.old) (R.noted rows.new)
-        (λ t. only (meeting row table (option_map test_of cond.now) (over own.now t) (present_keys (over own.now t) table) (scope_of scope)) ≡ keys)) }
+    ensures followed { IfOk result (λ keys. Learns R.face R.noted rows.old rows.new (λ t.
+        only (meeting selection.now.row.num selection.now.table.num (option_map test_of selection.now.cond.now)
+        (over own.now t) (present_keys (over own.now t) selection.now.table.num) (scope_of scope)) ≡ keys)) }
     ensures asked { Asked R.stays R.face rows.old rows.new result }
 {
-    let keys = present_after(alloc, own, table, rows)?;
-    match cond {
+    let keys = present_after(alloc, own, selection.table.num, rows)?;
+    match selection.cond {
         None => Ok(Some(keys)),
         Some(test) => {
             let mut scratch = scope;
-            let met = meet(
+            let filter = Filter {
                 alloc,
                 own,
-                row,
-                table,
+                row: selection.row.num,
+                table: selection.table.num,
                 test,
-                keys.items(),
-                &mut scratch,
-                rows,
-            )?;
+            };
+            let met = meet(&filter, keys.items(), &mut scratch, rows)?;
             Ok(met)
         }
     }

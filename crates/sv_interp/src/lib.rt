@@ -12,6 +12,7 @@ mod settings;
 mod slots;
 mod statements;
 mod states;
+mod turns;
 mod txns;
 mod values;
 mod writes;

@@ -8,12 +8,12 @@ ghost use Rattle.sv_app.specs.Units.{unit_of};
 ghost use Rattle.sv_effect.specs.Asked.{Asked};
 ghost use Rattle.sv_effect.specs.Run.{items_of, run_command, on_present, inserted, updated, Setting as RunSetting};
 ghost use Rattle.sv_interp.specs.Keeping.{Statement, Keeps, LooksUp};
-ghost use Rattle.sv_interp.specs.Machine.{declared, stand, flow_of, setting_of, Runs};
+ghost use Rattle.sv_interp.specs.Machine.{declared, stand, flow_of, setting_of, RunsOn};
 
 use crate::changes::{insert_row, remove_row, update_row};
 use crate::inserts::{key_in, key_of, values};
 use crate::loops::unit_of;
-use crate::settings::Setting;
+use crate::settings::{Setting, Spot, Target};
 use crate::states::State;
 use crate::values::value;
 use std::alloc::Global;
@@ -45,32 +45,32 @@ pub fn run_reply(expr: &Expr, state: &mut State) -> Result<Option<Outcome>, NoMe
 /// Binds a row variable to a row, which has to be present.
 #[tactic(auto, using(crate::proofs::RunLaws::steps, crate::proofs::KeepLaws::steps))]
 pub fn run_get<R: Rows>(
-    alloc: Global,
     setting: &Setting<'_>,
     row: Ident,
-    table: Ident,
-    key: &[Expr],
+    target: &Target<'_>,
     state: &mut State,
     rows: &mut R,
 ) -> Result<Option<Outcome>, Halt>
-    ensures ran { IfOk result (λ end. Runs (run_command (setting_of setting.now) (Fetch row table (terms_of key.now))) (R.face rows.old) (R.face rows.new) (R.noted rows.old) (R.noted rows.new) state.old end state.new) }
-    ensures kept { IfOk result (λ end. Keeps (R.is_of rows.old) (setting_of setting.now) (Statement (Fetch row table (terms_of key.now))) state.old end state.new) }
+    ensures ran { IfOk result (λ end. RunsOn R.face R.noted rows.old rows.new
+        (run_command (setting_of setting.now) (Fetch row target.now.table (terms_of target.now.key.now))) state.old end state.new) }
+    ensures kept { IfOk result (λ end. Keeps (R.is_of rows.old) (setting_of setting.now)
+        (Statement (Fetch row target.now.table (terms_of target.now.key.now))) state.old end state.new) }
     ensures asked { Asked R.stays R.face rows.old rows.new result }
 {
-    let Some(vals) = values(alloc, key, &mut state.scope)? else {
+    let Some(vals) = values(setting.alloc, target.key, &mut state.scope)? else {
         return Ok(Some(Outcome::Range));
     };
     let place = Place {
-        table: table.num,
+        table: target.table.num,
         key: key_of(vals.items()),
     };
-    match look(alloc, &state.own, rows, &place)? {
+    match look(setting.alloc, &state.own, rows, &place)? {
         None => Ok(Some(Outcome::NoRow)),
         Some(found) => {
             if !found.present {
                 return Ok(Some(Outcome::NoRow));
             }
-            state.bind(alloc, row.num, found.values)?;
+            state.bind(setting.alloc, row.num, found.values)?;
             Ok(None)
         }
     }
@@ -92,72 +92,75 @@ fn table_at<'a>(setting: &Setting<'a>, number: u16) -> Option<&'a Table>
 
 #[tactic(auto, using(crate::proofs::RunLaws::steps, crate::proofs::KeepLaws::steps))]
 fn insert_at<R: Rows>(
-    alloc: Global,
-    table: &Table,
-    place: &Place,
+    spot: &Spot<'_>,
     vals: &[Val],
     state: &mut State,
     rows: &mut R,
 ) -> Result<Option<Outcome>, Halt>
-    requires narrow { length (declaration_of table.now).columns ≤ 16 }
-    ensures ran { IfOk result (λ end. Runs (λ st. inserted (declaration_of table.now) place.now vals.now (get st.tables place.now) st) (R.face rows.old) (R.face rows.new) (R.noted rows.old) (R.noted rows.new) state.old end state.new) }
-    ensures kept { IfOk result (λ end. LooksUp (R.is_of rows.old) place.now (λ row st. inserted (declaration_of table.now) place.now vals.now row st) state.old end state.new) }
+    ensures ran { IfOk result (λ end. RunsOn R.face R.noted rows.old rows.new
+        (λ st. inserted (declaration_of spot.now.table.now) spot.now.place vals.now (get st.tables spot.now.place) st) state.old end state.new) }
+    ensures kept { IfOk result (λ end. LooksUp (R.is_of rows.old) spot.now.place
+        (λ row st. inserted (declaration_of spot.now.table.now) spot.now.place vals.now row st) state.old end state.new) }
     ensures asked { Asked R.stays R.face rows.old rows.new result }
 {
-    let found = look(alloc, &state.own, rows, place)?;
-    let end = insert_row(alloc, table, place, vals, found, state)?;
+    let found = look(spot.alloc, &state.own, rows, &spot.place)?;
+    let end = insert_row(spot, vals, found, state)?;
     Ok(end)
 }
 
 /// Inserts a row, where none is present.
 #[tactic(auto, using(crate::proofs::RunLaws::steps, crate::proofs::KeepLaws::steps))]
 pub fn run_insert<R: Rows>(
-    alloc: Global,
     setting: &Setting<'_>,
     table: Ident,
     exprs: &[Expr],
     state: &mut State,
     rows: &mut R,
 ) -> Result<Option<Outcome>, Halt>
-    ensures ran { IfOk result (λ end. Runs (run_command (setting_of setting.now) (Insert table (terms_of exprs.now))) (R.face rows.old) (R.face rows.new) (R.noted rows.old) (R.noted rows.new) state.old end state.new) }
-    ensures kept { IfOk result (λ end. Keeps (R.is_of rows.old) (setting_of setting.now) (Statement (Insert table (terms_of exprs.now))) state.old end state.new) }
+    ensures ran { IfOk result (λ end. RunsOn R.face R.noted rows.old rows.new
+        (run_command (setting_of setting.now) (Insert table (terms_of exprs.now))) state.old end state.new) }
+    ensures kept { IfOk result (λ end. Keeps (R.is_of rows.old) (setting_of setting.now)
+        (Statement (Insert table (terms_of exprs.now))) state.old end state.new) }
     ensures asked { Asked R.stays R.face rows.old rows.new result }
 {
-    let Some(vals) = values(alloc, exprs, &mut state.scope)? else {
+    let Some(vals) = values(setting.alloc, exprs, &mut state.scope)? else {
         return Ok(Some(Outcome::Range));
     };
     let Some(declared) = table_at(setting, table.num) else {
         return Ok(Some(Outcome::NoRow));
     };
-    let place = Place {
-        table: table.num,
-        key: key_in(alloc, &declared.key, vals.items())?,
+    let spot = Spot {
+        alloc: setting.alloc,
+        table: declared,
+        place: Place {
+            table: table.num,
+            key: key_in(setting.alloc, &declared.key, vals.items())?,
+        },
     };
-    let end = insert_at(alloc, declared, &place, vals.items(), state, rows)?;
+    let end = insert_at(&spot, vals.items(), state, rows)?;
     Ok(end)
 }
 
 #[tactic(auto, using(crate::proofs::RunLaws::steps, crate::proofs::KeepLaws::steps))]
 fn update_at<R: Rows>(
-    alloc: Global,
-    table: &Table,
-    place: &Place,
+    spot: &Spot<'_>,
     sets: &[(Ident, Expr)],
     state: &mut State,
     rows: &mut R,
 ) -> Result<Option<Outcome>, Halt>
-    requires narrow { length (declaration_of table.now).columns ≤ 16 }
-    ensures ran { IfOk result (λ end. Runs (λ st. on_present (get st.tables place.now) (updated (declaration_of table.now) place.now (sets_of sets.now) st)) (R.face rows.old) (R.face rows.new) (R.noted rows.old) (R.noted rows.new) state.old end state.new) }
-    ensures kept { IfOk result (λ end. LooksUp (R.is_of rows.old) place.now (λ row st. on_present row (updated (declaration_of table.now) place.now (sets_of sets.now) st)) state.old end state.new) }
+    ensures ran { IfOk result (λ end. RunsOn R.face R.noted rows.old rows.new
+        (λ st. on_present (get st.tables spot.now.place) (updated (declaration_of spot.now.table.now) spot.now.place (sets_of sets.now) st)) state.old end state.new) }
+    ensures kept { IfOk result (λ end. LooksUp (R.is_of rows.old) spot.now.place
+        (λ row st. on_present row (updated (declaration_of spot.now.table.now) spot.now.place (sets_of sets.now) st)) state.old end state.new) }
     ensures asked { Asked R.stays R.face rows.old rows.new result }
 {
-    match look(alloc, &state.own, rows, place)? {
+    match look(spot.alloc, &state.own, rows, &spot.place)? {
         None => Ok(Some(Outcome::NoRow)),
         Some(found) => {
             if !found.present {
                 return Ok(Some(Outcome::NoRow));
             }
-            let end = update_row(alloc, table, place, sets, found, state)?;
+            let end = update_row(spot, sets, found, state)?;
             Ok(end)
         }
     }
@@ -166,54 +169,58 @@ fn update_at<R: Rows>(
 /// Updates a row, which has to be present.
 #[tactic(auto, using(crate::proofs::RunLaws::steps, crate::proofs::KeepLaws::steps))]
 pub fn run_update<R: Rows>(
-    alloc: Global,
     setting: &Setting<'_>,
-    table: Ident,
-    key: &[Expr],
+    target: &Target<'_>,
     sets: &[(Ident, Expr)],
     state: &mut State,
     rows: &mut R,
 ) -> Result<Option<Outcome>, Halt>
-    ensures ran { IfOk result (λ end. Runs (run_command (setting_of setting.now) (Update table (terms_of key.now) (sets_of sets.now))) (R.face rows.old) (R.face rows.new) (R.noted rows.old) (R.noted rows.new) state.old end state.new) }
-    ensures kept { IfOk result (λ end. Keeps (R.is_of rows.old) (setting_of setting.now) (Statement (Update table (terms_of key.now) (sets_of sets.now))) state.old end state.new) }
+    ensures ran { IfOk result (λ end. RunsOn R.face R.noted rows.old rows.new
+        (run_command (setting_of setting.now) (Update target.now.table (terms_of target.now.key.now) (sets_of sets.now))) state.old end state.new) }
+    ensures kept { IfOk result (λ end. Keeps (R.is_of rows.old) (setting_of setting.now)
+        (Statement (Update target.now.table (terms_of target.now.key.now) (sets_of sets.now))) state.old end state.new) }
     ensures asked { Asked R.stays R.face rows.old rows.new result }
 {
-    let Some(vals) = values(alloc, key, &mut state.scope)? else {
+    let Some(vals) = values(setting.alloc, target.key, &mut state.scope)? else {
         return Ok(Some(Outcome::Range));
     };
-    let Some(declared) = table_at(setting, table.num) else {
+    let Some(declared) = table_at(setting, target.table.num) else {
         return Ok(Some(Outcome::NoRow));
     };
-    let place = Place {
-        table: table.num,
-        key: key_of(vals.items()),
+    let spot = Spot {
+        alloc: setting.alloc,
+        table: declared,
+        place: Place {
+            table: target.table.num,
+            key: key_of(vals.items()),
+        },
     };
-    let end = update_at(alloc, declared, &place, sets, state, rows)?;
+    let end = update_at(&spot, sets, state, rows)?;
     Ok(end)
 }
 
 /// Removes a row, which has to be present.
 #[tactic(auto, using(crate::proofs::RunLaws::steps, crate::proofs::KeepLaws::steps))]
 pub fn run_remove<R: Rows>(
-    alloc: Global,
     setting: &Setting<'_>,
-    table: Ident,
-    key: &[Expr],
+    target: &Target<'_>,
     state: &mut State,
     rows: &mut R,
 ) -> Result<Option<Outcome>, Halt>
-    ensures ran { IfOk result (λ end. Runs (run_command (setting_of setting.now) (Remove table (terms_of key.now))) (R.face rows.old) (R.face rows.new) (R.noted rows.old) (R.noted rows.new) state.old end state.new) }
-    ensures kept { IfOk result (λ end. Keeps (R.is_of rows.old) (setting_of setting.now) (Statement (Remove table (terms_of key.now))) state.old end state.new) }
+    ensures ran { IfOk result (λ end. RunsOn R.face R.noted rows.old rows.new
+        (run_command (setting_of setting.now) (Remove target.now.table (terms_of target.now.key.now))) state.old end state.new) }
+    ensures kept { IfOk result (λ end. Keeps (R.is_of rows.old) (setting_of setting.now)
+        (Statement (Remove target.now.table (terms_of target.now.key.now))) state.old end state.new) }
     ensures asked { Asked R.stays R.face rows.old rows.new result }
 {
-    let Some(vals) = values(alloc, key, &mut state.scope)? else {
+    let Some(vals) = values(setting.alloc, target.key, &mut state.scope)? else {
         return Ok(Some(Outcome::Range));
     };
     let place = Place {
-        table: table.num,
+        table: target.table.num,
         key: key_of(vals.items()),
     };
-    match look(alloc, &state.own, rows, &place)? {
+    match look(setting.alloc, &state.own, rows, &place)? {
         None => Ok(Some(Outcome::NoRow)),
         Some(found) => {
             if !found.present {
@@ -226,12 +233,12 @@ pub fn run_remove<R: Rows>(
 }
 
 /// The elements of a list parameter.
-pub fn items_of(alloc: Global, setting: &Setting<'_>, number: u16) -> Result<List<Val>, NoMemory>
+pub fn items_of(setting: &Setting<'_>, number: u16) -> Result<List<Val>, NoMemory>
     ensures { IfOk result (λ items. items ≡ items_of (slice_get (setting_of setting.now).arguments number)) }
 {
     match setting.args.get(number as usize) {
-        Some(Arg::Ints(numbers)) => integers(alloc, numbers.items()),
-        Some(Arg::Int(_)) | Some(Arg::Text(_)) | None => Ok(List::new(alloc)),
+        Some(Arg::Ints(numbers)) => integers(setting.alloc, numbers.items()),
+        Some(Arg::Int(_)) | Some(Arg::Text(_)) | None => Ok(List::new(setting.alloc)),
     }
 }
 

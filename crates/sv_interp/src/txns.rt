@@ -108,12 +108,7 @@ fn ended(alloc: Global, outcome: Outcome) -> Ran
 
 /// Runs statements from the beginning.
 #[tactic(auto, using(crate::proofs::TxnLaws::endings))]
-pub fn run_body<R: Rows>(
-    alloc: Global,
-    setting: &Setting<'_>,
-    body: &[Stmt],
-    rows: &mut R,
-) -> Result<Ran, Halt>
+pub fn run_body<R: Rows>(setting: &Setting<'_>, body: &[Stmt], rows: &mut R) -> Result<Ran, Halt>
     requires loops { setting.now.loops.now ≡ loop_variables (block_of body.now) }
     ensures followed { IfOk result (λ ran. Follows (R.face rows.old) (R.face rows.new) (R.noted rows.old) (R.noted rows.new) (λ t. run_body (schema_of setting.now.tables.now) (block_of body.now) setting.now.args.now t ≡ ran_of ran)) }
     ensures asked { Asked R.stays R.face rows.old rows.new result }
@@ -121,14 +116,14 @@ pub fn run_body<R: Rows>(
     ensures instances { IfOk result (λ ran. length ran.trace < 2 ^ 32) }
     ensures empty { IfOk result IsEmptyUnlessDone }
 {
-    let mut state = start(alloc, setting.args)?;
-    match run_all(alloc, setting, body, &mut state, rows)? {
+    let mut state = start(setting.alloc, setting.args)?;
+    match run_all(setting, body, &mut state, rows)? {
         Some(outcome) => {
-            let ran = ended(alloc, outcome);
+            let ran = ended(setting.alloc, outcome);
             Ok(ran)
         }
         None => {
-            let ran = finish(alloc, setting.tables, state)?;
+            let ran = finish(setting.alloc, setting.tables, state)?;
             Ok(ran)
         }
     }
@@ -171,11 +166,12 @@ pub fn run_txn<R: Rows>(
     let mut loops = Vec::new(alloc);
     put_loops(&mut loops, body)?;
     let setting = Setting {
+        alloc,
         tables: &app.tables,
         args,
         loops: loops.as_slice(),
     };
-    let ran = run_body(alloc, &setting, body, rows)?;
+    let ran = run_body(&setting, body, rows)?;
     Ok(ran)
 }
 

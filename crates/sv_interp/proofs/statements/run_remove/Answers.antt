@@ -11,8 +11,8 @@ use Rattle.sv_interp.proofs.statements.run_remove.Goals as goal
 pub returns-clause-kept : goal.returns-clause-kept
 returns-clause-kept g c =
     let same : c.items.result.now ≡ c.in-Some.vals = search rules in
-    let p : Place = record { table = c.args.table.num; key = c.key_of.result } in
-    let here : p ≡ place_of_row c.args.table c.in-Some.vals = ap (λ k. let q : Place = record { table = c.args.table.num; key = k } in q) (c.key_of.ensures ∙ ap key_of same) in
+    let p : Place = record { table = c.args.target.now.table.num; key = c.key_of.result } in
+    let here : p ≡ place_of_row c.args.target.now.table c.in-Some.vals = ap (λ k. let q : Place = record { table = c.args.target.now.table.num; key = k } in q) (c.key_of.ensures ∙ ap key_of same) in
     let u : State = record c.args.state.now { scope = c.values.new.scope } in
-    keeps_remove _ (setting_of c.args.setting.now) c.args.table (terms_of c.args.key.now) p c.deref.result.now c.in_ok-vals.field-0 c.in-Some.vals c.in_ok-look.field-0 c.in-Some-2.found c.args.state.now u c.remove_row.new.state
+    keeps_remove _ (setting_of c.args.setting.now) c.args.target.now.table (terms_of c.args.target.now.key.now) p c.deref.result.now c.in_ok-vals.field-0 c.in-Some.vals c.in_ok-look.field-0 c.in-Some-2.found c.args.state.now u c.remove_row.new.state
     c.in_ok-end-in-Some-2.end c.in_ok-vals.ensures c.in-Some.is refl here c.in_ok-look.ensures.fits c.deref.ensures.value c.in-Some-2.is c.in_ok-end-in-Some-2.ensures
