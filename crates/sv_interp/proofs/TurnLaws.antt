@@ -1,5 +1,5 @@
 -- How the turns of loops are listed, and how one begins.
-use Rattle.std.proofs.Common.{◌≡◌, ◌<◌, ◌≤◌, ◌+◌, ◌++◌, ◌∷◌, [], length, map, drop, take, get_or, ℕ, true, false, List, Option, Some, None, cond, refl, sym, ap, subst, ◌∙◌, slice_get}
+use Rattle.std.proofs.Common.{◌≡◌, ◌∷◌, [], map, ℕ, true, false, List, Option, Some, None, cond, refl, sym, ap, subst, ◌∙◌, slice_get}
 use Rattle.std.specs.FinMap.{get, empty}
 use Rattle.std.specs.Option.{option_map}
 use Rattle.sv_value.specs.declared.values.Key.{Key}
@@ -27,10 +27,10 @@ use Rattle.sv_interp.specs.declared.settings.Turn.{Turn}
 use Rattle.sv_interp.specs.declared.settings.Turn.TheVariants as turn
 use Rattle.sv_interp.specs.declared.states.State.{State}
 use Rattle.sv_interp.specs.Keeping.{AreFit}
-use Rattle.sv_interp.specs.Machine.{progress_of, scope_of, stand, calm, flow_of, Runs, closing, looping}
-use Rattle.sv_interp.specs.Turning.{turn_of, turn_in, item_turns, row_turns, AreRowTurns, entered, Enters, ItemTurnIn, RowTurnIn, TurnIn, BegunTurn, InTurn, Begins}
+use Rattle.sv_interp.specs.Machine.{progress_of, scope_of, stand, calm, Runs, closing, looping}
+use Rattle.sv_interp.specs.Turning.{turn_of, turn_in, item_turns, row_turns, AreRowTurns, entered, Enters, ItemTurnIn, RowTurnIn, TurnIn, Begins}
 use Rattle.sv_interp.proofs.LookLaws.{found_fits}
-use Rattle.sv_trace.specs.Standing.{Frame, RowAt, Holds, Passes, Turned}
+use Rattle.sv_trace.specs.Standing.{RowAt, Holds, Passes, Turned}
 use Rattle.sv_trace.proofs.ChangeLaws.{own_rows_fit}
 use Rattle.sv_trace.proofs.LoopLaws.{rows_in, items_in, row_begins, item_begins, row_turn_closes, item_turn_closes, turned_none}
 

@@ -1,5 +1,6 @@
 -- The turns of loops: what a turn means, and how it begins.
 use Rattle.std.specs.Prelude.{◌≡◌, ℕ, List, [], ◌∷◌, Option, Some, None, map}
+use Rattle.std.specs.Option.{option_map}
 use Rattle.sv_value.specs.declared.values.Key.{Key}
 use Rattle.sv_value.specs.declared.values.Val.{Val}
 use Rattle.sv_app.specs.declared.apps.Ident.{Ident}
@@ -7,13 +8,14 @@ use Rattle.sv_app.specs.declared.schemas.Ty.TheVariants as types
 use Rattle.sv_app.specs.Fitting.{HasType}
 use Rattle.sv_app.specs.Schema.{Declaration}
 use Rattle.sv_app.specs.Scopes.{Scope}
+use Rattle.sv_app.specs.Tables.{Tables}
 use Rattle.sv_app.specs.Trees.{Test, ForRows, ForEach, Block}
 use Rattle.sv_app.specs.Units.{loop_variables, unit_of}
 use Rattle.sv_effect.specs.Faces.{Face}
 use Rattle.sv_effect.specs.Follows.{Follows}
 use Rattle.sv_effect.specs.Reads.{ReadValue}
 use Rattle.sv_effect.specs.Run as run
-use Rattle.sv_effect.specs.Run.{Stand, Flow, Goes, run_block, row_turn, item_turn, closed}
+use Rattle.sv_effect.specs.Run.{Stand, Flow, Goes, run_block, row_turn, item_turn, meeting, only, present_keys, closed}
 use Rattle.sv_effect.specs.RunValues as values
 use Rattle.sv_interp.specs.declared.scopes.Progress.{Progress}
 use Rattle.sv_interp.specs.declared.settings.Turn.{Turn}
@@ -38,6 +40,11 @@ item_turns unit x vs = map (λ v. turn.Item unit x v) vs
 abbrev pub row_turns : ℕ → ℕ → ℕ → List Key → List Turn
 row_turns unit r table ks = map (λ k. turn.Row unit r table k) ks
 
+-- the turns over the rows of these tables that meet a condition, each evaluated in a scope of its own
+abbrev pub turns_selected : List ℕ → Ident → Ident → Option Test → Tables → values.Scope → Option (List Turn)
+turns_selected loops r table test t s = option_map (row_turns (unit_of loops r.num) r.num table.num) (only (meeting r.num table.num test t (present_keys t table.num) s))
+
+-- they are over rows of that table, whichever
 pub record AreRowTurns (unit r table : ℕ) (ts : List Turn) : Type 0 where
   pub keys : List Key
   pub are : ts ≡ row_turns unit r table keys

@@ -38,7 +38,13 @@ fn change(
     row: LeftRow,
 ) -> Result<Option<Outcome>, NoMemory>
     requires { length writes.now ≤ 16 }
-    ensures { IfOk result (λ end. (t : Tables) → changed (record { place = place.now; act = act; writes = writes.now; instance = state.old.scope.progress.number }) (left_row row) (stand t state.old) ≡ flow_of end (stand t state.new)) }
+    ensures { IfOk result (λ end. (t : Tables) → changed (record {
+      place = place.now;
+      act = act;
+      writes = writes.now;
+      instance = state.old.scope.progress.number;
+    }) (left_row row) (stand t state.old)
+        ≡ flow_of end (stand t state.new)) }
 {
     if state.effects.len() >= MOST_EFFECTS {
         return Ok(Some(Outcome::TooLarge));
@@ -71,7 +77,8 @@ pub fn update_row(
     row: LeftRow,
     state: &mut State,
 ) -> Result<Option<Outcome>, NoMemory>
-    ensures { IfOk result (λ end. (t : Tables) → updated (declaration_of spot.now.table.now) spot.now.place (sets_of sets.now) (stand t state.old) (left_row row) ≡ flow_of end (stand t state.new)) }
+    ensures { IfOk result (λ end. (t : Tables) → updated (declaration_of spot.now.table.now) spot.now.place
+        (sets_of sets.now) (stand t state.old) (left_row row) ≡ flow_of end (stand t state.new)) }
 {
     state.start_update(spot.alloc, copy_values(spot.alloc, row.values.items())?);
     let Some(made) = sets_made(spot.alloc, &spot.table.columns, sets, &mut state.scope)? else {
@@ -89,7 +96,8 @@ pub fn update_row(
 
 /// The values that an insert finds.
 fn kept_values(spot: &Spot<'_>, row: Option<LeftRow>) -> Result<List<Got>, NoMemory>
-    ensures { IfOk result (λ kept. kept ≡ kept_values (declaration_of spot.now.table.now) spot.now.place.key (left_rows row)) }
+    ensures { IfOk result (λ kept. kept ≡ kept_values (declaration_of spot.now.table.now) spot.now.place.key
+        (left_rows row)) }
 {
     match row {
         Some(row) => Ok(row.values),
@@ -113,7 +121,8 @@ pub fn insert_row(
     row: Option<LeftRow>,
     state: &mut State,
 ) -> Result<Option<Outcome>, NoMemory>
-    ensures { IfOk result (λ end. (t : Tables) → inserted (declaration_of spot.now.table.now) spot.now.place vals.now (left_rows row) (stand t state.old) ≡ flow_of end (stand t state.new)) }
+    ensures { IfOk result (λ end. (t : Tables) → inserted (declaration_of spot.now.table.now) spot.now.place vals.now
+        (left_rows row) (stand t state.old) ≡ flow_of end (stand t state.new)) }
 {
     if stands(&row) {
         return Ok(Some(Outcome::Exists));
@@ -145,7 +154,8 @@ pub fn remove_row(
     row: LeftRow,
     state: &mut State,
 ) -> Result<Option<Outcome>, NoMemory>
-    ensures { IfOk result (λ end. (t : Tables) → removed place.now (stand t state.old) (left_row row) ≡ flow_of end (stand t state.new)) }
+    ensures { IfOk result (λ end. (t : Tables) → removed place.now (stand t state.old) (left_row row)
+        ≡ flow_of end (stand t state.new)) }
 {
     let left = LeftRow {
         values: row.values,

@@ -140,7 +140,8 @@ fn run_inside<R: Rows>(
     rows: &mut R,
 ) -> Result<Option<Outcome>, Halt>
     ensures ran { IfOk result (λ end. RunsOn R.face R.noted rows.old rows.new
-        (closing (progress_of outer) (run_block (setting_of setting.now) (block_of body.now))) state.old end state.new) }
+        (closing (progress_of outer) (run_block (setting_of setting.now)
+        (block_of body.now))) state.old end state.new) }
     ensures kept { IfOk result (λ end. Keeps (R.is_of rows.old) (setting_of setting.now)
         (Inside (block_of body.now) (progress_of outer)) state.old end state.new) }
     ensures asked { Asked R.stays R.face rows.old rows.new result }
@@ -215,7 +216,8 @@ fn run_loop<R: Rows>(
     rows: &mut R,
 ) -> Result<Option<Outcome>, Halt>
     ensures ran { IfOk result (λ end. RunsOn R.face R.noted rows.old rows.new
-        (looping all.now (turn_in (setting_of setting.now) (block_of body.now)) (block_of body.now)) state.old end state.new) }
+        (looping all.now (turn_in (setting_of setting.now) (block_of body.now))
+        (block_of body.now)) state.old end state.new) }
     ensures kept { IfOk result (λ end. Keeps (R.is_of rows.old) (setting_of setting.now)
         (Loop all.now (block_of body.now)) state.old end state.new) }
     ensures asked { Asked R.stays R.face rows.old rows.new result }

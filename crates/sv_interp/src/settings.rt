@@ -6,8 +6,8 @@ use std::alloc::Global;
 use sv_app::{Arg, Cond, Expr, Ident, Place, Table};
 use sv_value::{Key, Val};
 
-/// What a run is made of: where its memory comes from, the tables, the arguments, and the variables of its loops in the order of the text. No table
-/// has more than 16 columns, and there are fewer than 2^16 - 1 loops.
+/// What a run is made of: where its memory comes from, the tables, the arguments, and the variables of its loops in the
+/// order of the text. No table has more than 16 columns, and there are fewer than 2^16 - 1 loops.
 #[derive(Debug, Drop)]
 pub struct Setting<'a> {
     pub alloc: Global,

@@ -23,7 +23,8 @@ use sv_value::{List, NoMemory, Val};
 
 /// Gives a variable the value of an expression.
 pub fn run_let(var: Ident, expr: &Expr, state: &mut State) -> Result<Option<Outcome>, NoMemory>
-    ensures { IfOk result (λ end. (g : RunSetting) (t : Tables) → run_command g (Declare var (term_of expr.now)) (stand t state.old) ≡ flow_of end (stand t state.new)) }
+    ensures { IfOk result (λ end. (g : RunSetting) (t : Tables)
+        → run_command g (Declare var (term_of expr.now)) (stand t state.old) ≡ flow_of end (stand t state.new)) }
 {
     let Some(val) = value(expr, &mut state.scope)? else {
         return Ok(Some(Outcome::Range));
@@ -34,7 +35,8 @@ pub fn run_let(var: Ident, expr: &Expr, state: &mut State) -> Result<Option<Outc
 
 /// Gives a reply.
 pub fn run_reply(expr: &Expr, state: &mut State) -> Result<Option<Outcome>, NoMemory>
-    ensures { IfOk result (λ end. (g : RunSetting) (t : Tables) → run_command g (Reply (term_of expr.now)) (stand t state.old) ≡ flow_of end (stand t state.new)) }
+    ensures { IfOk result (λ end. (g : RunSetting) (t : Tables)
+        → run_command g (Reply (term_of expr.now)) (stand t state.old) ≡ flow_of end (stand t state.new)) }
 {
     let Some(val) = value(expr, &mut state.scope)? else {
         return Ok(Some(Outcome::Range));
@@ -52,7 +54,8 @@ pub fn run_get<R: Rows>(
     rows: &mut R,
 ) -> Result<Option<Outcome>, Halt>
     ensures ran { IfOk result (λ end. RunsOn R.face R.noted rows.old rows.new
-        (run_command (setting_of setting.now) (Fetch row target.now.table (terms_of target.now.key.now))) state.old end state.new) }
+        (run_command (setting_of setting.now) (Fetch row target.now.table
+        (terms_of target.now.key.now))) state.old end state.new) }
     ensures kept { IfOk result (λ end. Keeps (R.is_of rows.old) (setting_of setting.now)
         (Statement (Fetch row target.now.table (terms_of target.now.key.now))) state.old end state.new) }
     ensures asked { Asked R.stays R.face rows.old rows.new result }
@@ -98,9 +101,11 @@ fn insert_at<R: Rows>(
     rows: &mut R,
 ) -> Result<Option<Outcome>, Halt>
     ensures ran { IfOk result (λ end. RunsOn R.face R.noted rows.old rows.new
-        (λ st. inserted (declaration_of spot.now.table.now) spot.now.place vals.now (get st.tables spot.now.place) st) state.old end state.new) }
+        (λ st. inserted (declaration_of spot.now.table.now) spot.now.place vals.now
+        (get st.tables spot.now.place) st) state.old end state.new) }
     ensures kept { IfOk result (λ end. LooksUp (R.is_of rows.old) spot.now.place
-        (λ row st. inserted (declaration_of spot.now.table.now) spot.now.place vals.now row st) state.old end state.new) }
+        (λ row st. inserted (declaration_of spot.now.table.now) spot.now.place vals.now row st) state.old end
+        state.new) }
     ensures asked { Asked R.stays R.face rows.old rows.new result }
 {
     let found = look(spot.alloc, &state.own, rows, &spot.place)?;
@@ -149,9 +154,11 @@ fn update_at<R: Rows>(
     rows: &mut R,
 ) -> Result<Option<Outcome>, Halt>
     ensures ran { IfOk result (λ end. RunsOn R.face R.noted rows.old rows.new
-        (λ st. on_present (get st.tables spot.now.place) (updated (declaration_of spot.now.table.now) spot.now.place (sets_of sets.now) st)) state.old end state.new) }
+        (λ st. on_present (get st.tables spot.now.place) (updated (declaration_of spot.now.table.now) spot.now.place
+        (sets_of sets.now) st)) state.old end state.new) }
     ensures kept { IfOk result (λ end. LooksUp (R.is_of rows.old) spot.now.place
-        (λ row st. on_present row (updated (declaration_of spot.now.table.now) spot.now.place (sets_of sets.now) st)) state.old end state.new) }
+        (λ row st. on_present row (updated (declaration_of spot.now.table.now) spot.now.place
+        (sets_of sets.now) st)) state.old end state.new) }
     ensures asked { Asked R.stays R.face rows.old rows.new result }
 {
     match look(spot.alloc, &state.own, rows, &spot.place)? {
@@ -176,9 +183,11 @@ pub fn run_update<R: Rows>(
     rows: &mut R,
 ) -> Result<Option<Outcome>, Halt>
     ensures ran { IfOk result (λ end. RunsOn R.face R.noted rows.old rows.new
-        (run_command (setting_of setting.now) (Update target.now.table (terms_of target.now.key.now) (sets_of sets.now))) state.old end state.new) }
+        (run_command (setting_of setting.now) (Update target.now.table (terms_of target.now.key.now)
+        (sets_of sets.now))) state.old end state.new) }
     ensures kept { IfOk result (λ end. Keeps (R.is_of rows.old) (setting_of setting.now)
-        (Statement (Update target.now.table (terms_of target.now.key.now) (sets_of sets.now))) state.old end state.new) }
+        (Statement (Update target.now.table (terms_of target.now.key.now)
+        (sets_of sets.now))) state.old end state.new) }
     ensures asked { Asked R.stays R.face rows.old rows.new result }
 {
     let Some(vals) = values(setting.alloc, target.key, &mut state.scope)? else {
@@ -208,7 +217,8 @@ pub fn run_remove<R: Rows>(
     rows: &mut R,
 ) -> Result<Option<Outcome>, Halt>
     ensures ran { IfOk result (λ end. RunsOn R.face R.noted rows.old rows.new
-        (run_command (setting_of setting.now) (Remove target.now.table (terms_of target.now.key.now))) state.old end state.new) }
+        (run_command (setting_of setting.now) (Remove target.now.table
+        (terms_of target.now.key.now))) state.old end state.new) }
     ensures kept { IfOk result (λ end. Keeps (R.is_of rows.old) (setting_of setting.now)
         (Statement (Remove target.now.table (terms_of target.now.key.now))) state.old end state.new) }
     ensures asked { Asked R.stays R.face rows.old rows.new result }

@@ -4,9 +4,9 @@ ghost use Rattle.sv_app.specs.Trees.{test_of};
 ghost use Rattle.sv_app.specs.Units.{unit_of};
 ghost use Rattle.sv_effect.specs.Asked.{Asked};
 ghost use Rattle.sv_effect.specs.Overlays.{over};
-ghost use Rattle.sv_effect.specs.Run.{items_of, meeting, only, present_keys};
+ghost use Rattle.sv_effect.specs.Run.{items_of};
 ghost use Rattle.sv_interp.specs.Machine.{Learns, scope_of, setting_of};
-ghost use Rattle.sv_interp.specs.Turning.{item_turns, row_turns, AreRowTurns, EntersOn, Begins};
+ghost use Rattle.sv_interp.specs.Turning.{item_turns, row_turns, turns_selected, AreRowTurns, EntersOn, Begins};
 
 use crate::keys::met_keys;
 use crate::scopes::{Progress, Scope};
@@ -80,11 +80,10 @@ pub fn row_turns<R: Rows>(
     rows: &mut R,
 ) -> Result<Option<List<Turn>>, Halt>
     ensures followed { IfOk result (λ turns. Learns R.face R.noted rows.old rows.new (λ t.
-        option_map (row_turns (unit_of (setting_of setting.now).loops selection.now.row.num) selection.now.row.num selection.now.table.num)
-        (only (meeting selection.now.row.num selection.now.table.num (option_map test_of selection.now.cond.now) (over own.now t)
-        (present_keys (over own.now t) selection.now.table.num) (scope_of scope))) ≡ turns)) }
-    ensures kind { IfOk result (λ turns. IfSome turns (AreRowTurns (unit_of (setting_of setting.now).loops selection.now.row.num)
-        selection.now.row.num selection.now.table.num)) }
+        turns_selected (setting_of setting.now).loops selection.now.row selection.now.table
+        (option_map test_of selection.now.cond.now) (over own.now t) (scope_of scope) ≡ turns)) }
+    ensures kind { IfOk result (λ turns. IfSome turns (AreRowTurns
+        (unit_of (setting_of setting.now).loops selection.now.row.num) selection.now.row.num selection.now.table.num)) }
     ensures asked { Asked R.stays R.face rows.old rows.new result }
 {
     let Some(keys) = met_keys(setting.alloc, selection, own, scope, rows)? else {
@@ -103,7 +102,8 @@ pub fn begin_turn<R: Rows>(
     state: &mut State,
     rows: &mut R,
 ) -> Result<Option<Progress>, Halt>
-    ensures entered { IfOk result (λ outer. EntersOn R.face R.noted rows.old rows.new turn.now state.old outer state.new) }
+    ensures entered { IfOk result (λ outer. EntersOn R.face R.noted rows.old rows.new
+        turn.now state.old outer state.new) }
     ensures begun { IfOk result (λ outer. Begins (R.is_of rows.old) turn.now state.old outer state.new) }
     ensures asked { Asked R.stays R.face rows.old rows.new result }
 {

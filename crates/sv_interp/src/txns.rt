@@ -1,20 +1,17 @@
-ghost use Rattle.std.specs.Prelude.{◌≡◌, ◌<◌, ◌≤◌, ◌^◌, length, IfOk, List as Items, map, slice_get};
-ghost use Rattle.std.specs.List.{All};
+ghost use Rattle.std.specs.Prelude.{◌≡◌, ◌<◌, ◌^◌, length, IfOk, List as Items, map, slice_get};
 ghost use Rattle.sv_app.specs.Accepted.{AcceptedApp};
 ghost use Rattle.sv_app.specs.Schema.{Declaration, schema_of};
 ghost use Rattle.sv_app.specs.Tables.{Tables};
-ghost use Rattle.sv_app.specs.Shaped.{Shaped};
-ghost use Rattle.sv_app.specs.Trees.{Transaction, block_of, transactions_of};
+ghost use Rattle.sv_app.specs.Trees.{block_of, transactions_of};
 ghost use Rattle.sv_app.specs.Units.{loop_variables};
-ghost use Rattle.sv_effect.specs.Fits.{AllFit};
 ghost use Rattle.sv_effect.specs.Asked.{Asked};
-ghost use Rattle.sv_effect.specs.Follows.{Follows, TableAgrees};
+ghost use Rattle.sv_effect.specs.Follows.{TableAgrees};
 ghost use Rattle.sv_effect.specs.Agrees.{Agrees};
 ghost use Rattle.sv_effect.specs.Reads.{read_of};
-ghost use Rattle.sv_effect.specs.Run.{Goes, Ends, argument, body_of, started, result_of, run_body, run, ran_of};
-ghost use Rattle.sv_interp.specs.Machine.{stand};
-ghost use Rattle.sv_interp.specs.Results.{request_of, IsRunnable, IsBodyOf, RunFits, IsEmpty, IsEmptyUnlessDone};
-ghost use Rattle.sv_trace.specs.Standing.{Frame};
+ghost use Rattle.sv_effect.specs.Run.{Goes, Ends, argument, body_of, started, result_of, ran_of};
+ghost use Rattle.sv_interp.specs.Machine.{Learns, stand};
+ghost use Rattle.sv_interp.specs.Results.{IsRunOf, IsRunOfBody, BodyFits, FitsWhereRunnable, IsEmpty};
+ghost use Rattle.sv_interp.specs.Results.{IsEmptyUnlessDone};
 
 use crate::loops::put_loops;
 use crate::needs::needs;
@@ -68,7 +65,8 @@ fn start(alloc: Global, args: &[Arg]) -> Result<State, NoMemory>
 
 /// What a run comes to that wasn't ended before.
 fn finish(alloc: Global, tables: &[Table], state: State) -> Result<Ran, NoMemory>
-    ensures result { IfOk result (λ ran. (t : Tables) → result_of (schema_of tables.now) (Goes (stand t state)) ≡ ran_of ran) }
+    ensures result { IfOk result (λ ran. (t : Tables) → result_of (schema_of tables.now) (Goes (stand t state))
+        ≡ ran_of ran) }
     ensures instances { IfOk result (λ ran. length ran.trace < 2 ^ 32) }
     ensures empty { IfOk result IsEmptyUnlessDone }
 {
@@ -110,9 +108,10 @@ fn ended(alloc: Global, outcome: Outcome) -> Ran
 #[tactic(auto, using(crate::proofs::TxnLaws::endings))]
 pub fn run_body<R: Rows>(setting: &Setting<'_>, body: &[Stmt], rows: &mut R) -> Result<Ran, Halt>
     requires loops { setting.now.loops.now ≡ loop_variables (block_of body.now) }
-    ensures followed { IfOk result (λ ran. Follows (R.face rows.old) (R.face rows.new) (R.noted rows.old) (R.noted rows.new) (λ t. run_body (schema_of setting.now.tables.now) (block_of body.now) setting.now.args.now t ≡ ran_of ran)) }
+    ensures followed { IfOk result (λ ran. Learns R.face R.noted rows.old rows.new
+        (IsRunOfBody setting.now (block_of body.now) ran)) }
     ensures asked { Asked R.stays R.face rows.old rows.new result }
-    ensures fits { IfOk result (λ ran. (f : Frame) → IsBodyOf f (schema_of setting.now.tables.now) (block_of body.now) setting.now.args.now → R.is_of rows.old f.schema → RunFits f.schema f.txn ran) }
+    ensures fits { IfOk result (BodyFits (R.is_of rows.old) setting.now (block_of body.now)) }
     ensures instances { IfOk result (λ ran. length ran.trace < 2 ^ 32) }
     ensures empty { IfOk result IsEmptyUnlessDone }
 {
@@ -140,10 +139,11 @@ fn body_of(app: &App, number: u16) -> &[Stmt]
 }
 
 /// Runs the transaction of that number with these arguments, on rows that it asks for. What it comes to is what the run
-/// comes to on whole tables, on all tables that agree with what the rows answered; and it halts for a missing answer only
-/// where the rows don't know it. Whatever the rows answered, a run that isn't done has no changes, needs or instances;
-/// and where the rows are of the application, this was accepted and the arguments fit, each instance of the trace is
-/// shaped, and there are at most 64 changes, each of which fits the schema. There are fewer than 2^32 instances.
+/// comes to on whole tables, on all tables that agree with what the rows answered; and it halts for a missing answer
+/// only where the rows don't know it. Whatever the rows answered, a run that isn't done has no changes, needs or
+/// instances; and where the rows are of the application, this was accepted and the arguments fit, each instance of the
+/// trace is shaped, and there are at most 64 changes, each of which fits the schema. There are fewer than 2^32 instances;
+/// a run that would have more is told as want of memory.
 pub fn run_txn<R: Rows>(
     alloc: Global,
     app: &App,
@@ -152,14 +152,10 @@ pub fn run_txn<R: Rows>(
     rows: &mut R,
 ) -> Result<Ran, Halt>
     requires accepted { AcceptedApp (schema_of app.now.tables.items) (transactions_of app.now.txns.items) }
-    ensures followed { IfOk result (λ ran. Follows (R.face rows.old) (R.face rows.new) (R.noted rows.old) (R.noted rows.new)
-        (λ t. run (schema_of app.now.tables.items) (transactions_of app.now.txns.items) (request_of txn args.now) t ≡ ran_of ran)) }
+    ensures followed { IfOk result (λ ran. Learns R.face R.noted rows.old rows.new (IsRunOf app.now txn args.now ran)) }
     ensures asked { Asked R.stays R.face rows.old rows.new result }
     ensures empty { IfOk result IsEmptyUnlessDone }
-    ensures shaped { IfOk result (λ ran. (transaction : Transaction) → IsRunnable (schema_of app.now.tables.items) (transactions_of app.now.txns.items) (request_of txn args.now) transaction
-        → R.is_of rows.old (schema_of app.now.tables.items) → All (Shaped (schema_of app.now.tables.items) transaction) ran.trace) }
-    ensures fits { IfOk result (λ ran. (transaction : Transaction) → IsRunnable (schema_of app.now.tables.items) (transactions_of app.now.txns.items) (request_of txn args.now) transaction
-        → R.is_of rows.old (schema_of app.now.tables.items) → AllFit (schema_of app.now.tables.items) ran.effects × (length ran.effects ≤ 64)) }
+    ensures fits { IfOk result (FitsWhereRunnable (R.is_of rows.old) app.now txn args.now) }
     ensures instances { IfOk result (λ ran. length ran.trace < 2 ^ 32) }
 {
     let body = body_of(app, txn);
@@ -186,15 +182,12 @@ pub fn run_noted<R: Rows>(
 ) -> Result<(Ran, Vec<Read>), Halt>
     requires accepted { AcceptedApp (schema_of app.now.tables.items) (transactions_of app.now.txns.items) }
     ensures ran { IfOk result (λ end. (t : Tables) → Agrees t (map read_of end.1.items)
-        → run (schema_of app.now.tables.items) (transactions_of app.now.txns.items) (request_of txn args.now) t ≡ ran_of end.0) }
+        → IsRunOf app.now txn args.now end.0 t) }
     ensures honest { IfOk result (λ end. TableAgrees (R.face rows.old).tables (map read_of end.1.items)) }
     ensures few { IfOk result (λ end. length end.1.items < 2 ^ 32) }
     ensures asked { Asked R.stays R.face rows.old rows.new result }
     ensures empty { IfOk result (λ end. IsEmptyUnlessDone end.0) }
-    ensures shaped { IfOk result (λ end. (transaction : Transaction) → IsRunnable (schema_of app.now.tables.items) (transactions_of app.now.txns.items) (request_of txn args.now) transaction
-        → R.is_of rows.old (schema_of app.now.tables.items) → All (Shaped (schema_of app.now.tables.items) transaction) end.0.trace) }
-    ensures fits { IfOk result (λ end. (transaction : Transaction) → IsRunnable (schema_of app.now.tables.items) (transactions_of app.now.txns.items) (request_of txn args.now) transaction
-        → R.is_of rows.old (schema_of app.now.tables.items) → AllFit (schema_of app.now.tables.items) end.0.effects × (length end.0.effects ≤ 64)) }
+    ensures fits { IfOk result (λ end. FitsWhereRunnable (R.is_of rows.old) app.now txn args.now end.0) }
     ensures instances { IfOk result (λ end. length end.0.trace < 2 ^ 32) }
 {
     let mut noted = Noted::new(alloc, rows);

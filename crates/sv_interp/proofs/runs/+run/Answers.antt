@@ -1,4 +1,4 @@
-use Rattle.std.proofs.Common.{◌≡◌, ◌∙◌, true, false, refl, ap, subst, rules}
+use Rattle.std.proofs.Common.{◌≡◌, true, false, refl, subst, rules}
 use Rattle.std.specs.Option.{option_map}
 use Rattle.std.specs.Prelude.{IfSome}
 use Rattle.sv_app.specs.Trees.{command_of, block_of, test_of}

@@ -7,16 +7,11 @@ use Rattle.sv_interp.proofs.LimitLaws.{accepted_narrow, accepted_few}
 use Rattle.sv_interp.proofs.ResultLaws.{body_fits}
 use Rattle.sv_interp.proofs.txns.run_txn.Goals as goal
 
-pub returns-clause-shaped : goal.returns-clause-shaped
-returns-clause-shaped g c = λ transaction run is.
-    (body_fits _ (schema_of c.args.app.now.tables.items) (transactions_of c.args.app.now.txns.items) (request_of c.args.txn c.args.args.now) transaction (schema_of c.deref.result.now) (block_of c.body_of-body.result.now) c.args.args.now c.in_ok-ran.ran
-    run (ap schema_of c.deref.ensures.value) c.body_of-body.ensures refl c.in_ok-ran.ensures.fits is).shaped
-
 pub returns-clause-fits : goal.returns-clause-fits
-returns-clause-fits g c = λ transaction run is.
-    let fits = body_fits _ (schema_of c.args.app.now.tables.items) (transactions_of c.args.app.now.txns.items) (request_of c.args.txn c.args.args.now) transaction (schema_of c.deref.result.now) (block_of c.body_of-body.result.now) c.args.args.now c.in_ok-ran.ran
-    run (ap schema_of c.deref.ensures.value) c.body_of-body.ensures refl c.in_ok-ran.ensures.fits is in
-    (fits.changes, fits.few)
+returns-clause-fits g c = record {
+  fits = λ transaction run is. body_fits _ (schema_of c.args.app.now.tables.items) (transactions_of c.args.app.now.txns.items) (request_of c.args.txn c.args.args.now) transaction (schema_of c.deref.result.now) (block_of c.body_of-body.result.now) c.args.args.now c.in_ok-ran.ran
+      run (ap schema_of c.deref.ensures.value) c.body_of-body.ensures refl c.in_ok-ran.ensures.fits is;
+}
 
 pub invariant_of-setting : goal.invariant_of-setting
 invariant_of-setting g c =
