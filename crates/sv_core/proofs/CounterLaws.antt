@@ -1,6 +1,7 @@
 -- What a schema of one counter table says of its columns, and of the changes and the initial rows that fit it.
 use Rattle.std.proofs.Common.{◌≡◌, ◌≤◌, ◌==◌, ◌||◌, true, false, List, [], ◌∷◌, length, Some, None, slice_get, refl, sym, ap, subst, ◌∙◌, arith}
-use Rattle.std.specs.Prelude.{ℤ}
+use Rattle.std.specs.Prelude.{ℤ, ◌&&◌}
+use Rattle.std.specs.List.{list_any}
 use Rattle.sv_value.specs.declared.values.Val.TheVariants.{Int as IntVal}
 use Rattle.sv_app.specs.declared.acts.Act.TheVariants.{Update}
 use Rattle.sv_app.specs.declared.apps.Ident.{Ident}
@@ -10,7 +11,8 @@ use Rattle.sv_app.specs.declared.schemas.Column.{Column}
 use Rattle.sv_app.specs.declared.schemas.Kind.TheVariants.{Uoset}
 use Rattle.sv_app.specs.declared.schemas.Ty.{Ty}
 use Rattle.sv_app.specs.declared.schemas.Ty.TheVariants.{Int}
-use Rattle.sv_app.specs.Kinds.{kind_allows}
+use Rattle.sv_app.specs.Kinds.{kind_allows, is_drawn, is_fresh, is_unmerged}
+use Rattle.sv_app.specs.Lookups.{is_key}
 use Rattle.sv_app.specs.Schema.{Declaration}
 use Rattle.sv_app.specs.Slots.{item}
 use Rattle.sv_effect.specs.declared.ops.RowEffect.{RowEffect}
@@ -21,7 +23,6 @@ use Rattle.sv_effect.specs.RunChanges as runs
 use Rattle.sv_effect.specs.RunValues.{nothing}
 use Rattle.sv_effect.specs.Applied.{place_of, columns_of, annotation_of, columns_in, annotated_in}
 use Rattle.sv_effect.specs.Fits.{HasType, KeyFits, is_key_column, FitsSchema, AllFit, OpFits}
-use Rattle.sv_app.specs.Kinds.{is_unmerged}
 use Rattle.sv_effect.specs.Threatened.{is_plain_column, any_threatened}
 use Rattle.sv_store.specs.Initial.{ValuesFit, InitFits}
 use Rattle.sv_core.specs.CounterTable.{AreCounterColumns, IsKeyName, HasCounterColumns, IsCounterSchema}
@@ -83,7 +84,7 @@ change_fits schema c n delta = record {
   declared = first_table schema c;
   fits = record {
     key = key_fits schema c n;
-    allowed = ap (λ k. kind_allows k Update) c.kind;
+    allowed = ap (λ k. kind_allows k Update && true) c.kind;
     writes = (
       record {
         column = c.counter;
@@ -111,6 +112,12 @@ op_fits schema c n delta op only timed = record {
   time = timed;
 }
 
+-- no column of it is drawn
+not_fresh : (schema : List Declaration) (c : Counter schema) → is_fresh c.table ≡ false
+not_fresh schema c =
+    ap (list_any (λ (x : Column). is_drawn x.merge && is_key c.table x.name)) c.columns
+    ∙ (λ i. (is_drawn (c.are.key_merge i) && is_key c.table c.key.name) || ((is_drawn (c.are.counter_merge i) && is_key c.table c.counter.name) || false))
+
 pub init_fits : (schema : List Declaration) → Counter schema → (row : InitRow) → IsInitRow row → InitFits schema row
 init_fits schema c row is = record {
   table = c.table;
@@ -119,4 +126,5 @@ init_fits schema c row is = record {
   values = subst (λ cs. ValuesFit cs row.values) (sym c.columns)
       (subst (ValuesFit (c.key ∷ c.counter ∷ [])) (sym is.values) (int_type c.key.ty is.key c.are.key_type, (int_type c.counter.ty is.count c.are.counter_type, tt)));
   keyed = is.named ∙ sym (ap (λ names. key_in names row.values) c.named ∙ ap (key_in (c.name ∷ [])) is.values ∙ ap (λ n. runs.key_of (item nothing (IntVal is.key ∷ IntVal is.count ∷ []) n ∷ [])) c.is_key.number);
+  unreserved = λ fresh. absurd (let clash : true ≡ false = sym fresh ∙ not_fresh schema c in cc);
 }
