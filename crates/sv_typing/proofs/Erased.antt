@@ -1,7 +1,7 @@
 -- Names without their numbers: all that is looked at in a schema before the names are numbered is told by names and places.
 use Rattle.std.proofs.Common.{◌≡◌, ℕ, suc, Bool, true, false, List, [], ◌∷◌, ◌++◌, length, refl, sym, ap, ◌∙◌, map, Option, Some, None}
-use Rattle.std.specs.Prelude.{if◌then◌else◌, ◌||◌, not, ◌==◌, nat_lt, slice_get}
-use Rattle.std.specs.List.{find, list_any, flat_map}
+use Rattle.std.specs.Prelude.{if◌then◌else◌, ◌&&◌, ◌||◌, not, ◌==◌, nat_lt, slice_get}
+use Rattle.std.specs.List.{find, list_any, list_all, flat_map}
 use Rattle.std.specs.Option.{option_map, is_none}
 use Rattle.std.proofs.lemmas.List.{length-map}
 use Rattle.std.proofs.lemmas.Option.{slice_get-map}
@@ -9,11 +9,15 @@ use Rattle.sv_app.specs.declared.apps.Ident.{Ident}
 use Rattle.sv_app.specs.declared.refusals.Code.TheVariants.{Unknown, Twice, Typing}
 use Rattle.sv_app.specs.declared.schemas.Check.{Check}
 use Rattle.sv_app.specs.declared.schemas.Column.{Column}
+use Rattle.sv_app.specs.declared.schemas.Merge.{Merge}
+use Rattle.sv_app.specs.declared.schemas.Merge.TheVariants.{Plain, Lww, NumDelta, Fresh}
 use Rattle.sv_app.specs.Firsts.{is_same_place}
+use Rattle.sv_app.specs.Kinds.{is_annotated}
 use Rattle.sv_app.specs.Lookups.{is_named, column_of, table_of, is_key, holds_of, place_of, table_names, column_names}
 use Rattle.sv_app.specs.References.{referred, refers}
 use Rattle.sv_app.specs.Schema.{Rule, Bound, OneOf, Different, Refers, Invariant, Declaration}
-use Rattle.sv_app.specs.Typing.{fault_if, repeats, faults, table_faults, key_faults, column_faults, rule_faults, no_column, at_column, another_key, side_faults, second_side, shape_faults, check_faults, differs, referring_faults, referred_faults, target_faults, is_numdelta, is_merged_wrong}
+use Rattle.sv_app.specs.Typing.{fault_if, repeats, faults, table_faults, key_faults, column_faults, rule_faults, no_column, at_column, another_key, side_faults, second_side, shape_faults, check_faults, differs, referring_faults, referred_faults, target_faults, is_numdelta, is_text, is_int, is_only_key, is_misplaced, is_merged_wrong}
+use Rattle.sv_app.proofs.ListLaws.{map_map}
 use Rattle.sv_typing.proofs.NotedLaws.{flat_mapped}
 
 abbrev pub bare : Ident → Ident
@@ -59,10 +63,6 @@ find_map f p (x ∷ xs) = either (p (f x)) (find_map f p xs) where
 pub any_map : {A B : Type 0} (f : A → B) (p : B → Bool) (xs : List A) → list_any p (map f xs) ≡ list_any (λ x. p (f x)) xs
 any_map f p [] = refl
 any_map f p (x ∷ xs) = ap (λ b. p (f x) || b) (any_map f p xs)
-
-pub map_map : {A B C : Type 0} (f : A → B) (g : B → C) (xs : List A) → map g (map f xs) ≡ map (λ x. g (f x)) xs
-map_map f g [] = refl
-map_map f g (x ∷ xs) = ap (λ ys. g (f x) ∷ ys) (map_map f g xs)
 
 pub holds_map : {A B : Type 0} (f : A → B) (o : Option A) (test : B → Bool) → holds_of (option_map f o) test ≡ holds_of o (λ x. test (f x))
 holds_map f None test = refl
@@ -116,8 +116,21 @@ flat_bare f g h (x ∷ xs) same = (λ i. same x i ++ flat_bare f g h xs same i)
 keys_bare : (t : Declaration) → key_faults (bare_table t) ≡ key_faults t
 keys_bare t = simp (another_bare, repeats_bare, length-map, flat_bare bare (λ name. no_column (bare_table t) name) (λ name. no_column t name) t.key (no_column_bare t)) refl
 
+all_map : {A B : Type 0} (f : A → B) (p : B → Bool) (xs : List A) → list_all p (map f xs) ≡ list_all (λ x. p (f x)) xs
+all_map f p [] = refl
+all_map f p (x ∷ xs) = ap (λ b. p (f x) && b) (all_map f p xs)
+
+only_bare : (t : Declaration) (name : Ident) → is_only_key (bare_table t) (bare name) ≡ is_only_key t name
+only_bare t name = (λ i. key_bare t name i && all_map bare (λ other. is_named other name) t.key i)
+
+misplaced_bare : (t : Declaration) (c : Column) (merge : Merge) → is_misplaced (bare_table t) (bare_column c) merge ≡ is_misplaced t c merge
+misplaced_bare t c Plain = refl
+misplaced_bare t c Lww = key_bare t c.name
+misplaced_bare t c NumDelta = ap (λ b. b || is_text c.ty) (key_bare t c.name)
+misplaced_bare t c Fresh = ap (λ b. not (is_int c.ty && b && is_annotated t.kind)) (only_bare t c.name)
+
 merged_bare : (t : Declaration) (c : Column) → is_merged_wrong (bare_table t) (bare_column c) ≡ is_merged_wrong t c
-merged_bare t c = simp (key_bare) refl
+merged_bare t c = misplaced_bare t c c.merge
 
 columns_wrong_bare : (t : Declaration) → column_faults (bare_table t) ≡ column_faults t
 columns_wrong_bare t =

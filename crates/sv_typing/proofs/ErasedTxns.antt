@@ -60,7 +60,8 @@ use Rattle.sv_app.specs.Trees.{
 use Rattle.sv_app.specs.TxnNames.{plain_name, declared_by, declares, names_of}
 use Rattle.sv_app.specs.TxnTyping.{drawn_columns, drawn_faults, value_faults, no_column_of, field_faults, old_faults, operand_faults, term_faults, is_order, comparison_faults, test_faults, condition_faults, all_term_faults, no_table, at_table, kind_faults, count_faults, type_faults, each_type_faults, value_list_faults, set_faults, sets_faults, assignment_faults, walk_faults, type_if_right, declared_type, behind, command_faults, inner_faults, block_faults, txn_faults, txns_faults}
 use Rattle.sv_app.specs.Typing.{fault_if, is_text, repeats}
-use Rattle.sv_typing.proofs.Erased.{bare, bare_column, bare_table, bare_schema, find_map, map_map, column_bare, table_bare, key_bare, columns_bare, repeats_bare, no_column_bare, flat_bare, meant_bare, no_table_bare, no_column_in}
+use Rattle.sv_app.proofs.ListLaws.{map_map}
+use Rattle.sv_typing.proofs.Erased.{bare, bare_column, bare_table, bare_schema, find_map, column_bare, table_bare, key_bare, columns_bare, repeats_bare, no_column_bare, flat_bare, meant_bare, no_table_bare, no_column_in}
 use Rattle.sv_typing.proofs.NumberedSchema.{map_same, option_same}
 
 abbrev pub bare_meaning : Meaning → Meaning

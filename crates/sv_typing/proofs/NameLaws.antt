@@ -14,7 +14,7 @@ use Rattle.sv_app.specs.TxnNumbers.{Naming, naming, numbered_name, numbered_comm
 use Rattle.sv_app.specs.TxnTyping.{block_faults, txn_faults}
 use Rattle.sv_app.specs.Scopes.{opening}
 use Rattle.sv_app.specs.Typing.{repeats}
-use Rattle.sv_typing.proofs.Erased.{map_map}
+use Rattle.sv_app.proofs.ListLaws.{map_map}
 use Rattle.sv_typing.proofs.NumberedSchema.{map_same}
 use Rattle.sv_typing.proofs.NumberedTxns.{statements_numbered}
 use Rattle.sv_app.proofs.AcceptedLaws.{front_none, back_none, each_none}

@@ -66,7 +66,8 @@ use Rattle.sv_app.specs.TxnNumbers.{
   numbered_txns,
 }
 use Rattle.sv_app.specs.TxnTyping.{txns_faults}
-use Rattle.sv_typing.proofs.Erased.{bare, bare_schema, find_map, map_map}
+use Rattle.sv_app.proofs.ListLaws.{map_map}
+use Rattle.sv_typing.proofs.Erased.{bare, bare_schema, find_map}
 use Rattle.sv_typing.proofs.ErasedTxns.{bare_term, bare_test, bare_set, bare_command, bare_block, bare_param, bare_txn, bare_txns, bare_declared, declares_bare, txns_bare}
 use Rattle.sv_typing.proofs.NumberedSchema.{map_same, option_same, in_bare, in_tables_bare, meant_columns_bare, all_map, bare_numbered}
 

@@ -7,7 +7,7 @@ use Rattle.std.specs.Ordering.{eq_by_cmp}
 use Rattle.sv_value.specs.declared.spots.Spot.{Spot}
 use Rattle.sv_app.specs.declared.apps.Ident.{Ident}
 use Rattle.sv_app.specs.declared.refusals.Code.{Code}
-use Rattle.sv_app.specs.declared.refusals.Code.TheVariants.{Syntax, Unknown, Twice, Kind, Typing, Many, Cyclic, Unsatisfiable, BadInit, TooLong, BadStep}
+use Rattle.sv_app.specs.declared.refusals.Code.TheVariants.{Syntax, Unknown, Twice, Kind, Typing, Many, Cyclic, Unsatisfiable, BadInit, TooLong, BadStep, Reserved}
 use Rattle.sv_app.specs.declared.refusals.Refusal.{Refusal}
 use Rattle.sv_app.specs.Codes.{number_of}
 use Rattle.sv_app.specs.Firsts.{comes_before, IsFirst}
@@ -72,6 +72,7 @@ is_twice (Unsatisfiable table cycle) e = absurd (omega (arith, e))
 is_twice (BadInit inv row) e = absurd (omega (arith, e))
 is_twice TooLong e = absurd (omega (arith, e))
 is_twice BadStep e = absurd (omega (arith, e))
+is_twice Reserved e = absurd (omega (arith, e))
 
 -- each candidate is a name that stands twice
 pub AllTwice : List Refusal → Type 0

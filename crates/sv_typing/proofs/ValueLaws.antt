@@ -1,8 +1,11 @@
 -- Values beside their columns, one by one from the front.
-use Rattle.std.proofs.Common.{◌≡◌, ℕ, zero, suc, ◌+◌, ◌<◌, ◌≤◌, List, [], ◌∷◌, ◌++◌, length, drop, get_or, refl, sym, ap, ◌∙◌, arith, map, Option}
+use Rattle.std.proofs.Common.{◌≡◌, ℕ, zero, suc, ◌+◌, ◌<◌, ◌≤◌, List, [], ◌∷◌, ◌++◌, length, take, drop, get_or, refl, sym, ap, ◌∙◌, arith, map, filter, Bool, Option}
+use Rattle.std.proofs.lemmas.List.{take_more, map_push}
+use Rattle.std.proofs.lemmas.List.Elements.{filter-append}
 use Rattle.sv_value.specs.declared.spots.Spot.{Spot}
 use Rattle.sv_app.specs.declared.apps.Ident.{Ident}
 use Rattle.sv_app.specs.declared.refusals.Refusal.{Refusal}
+use Rattle.sv_app.specs.declared.schemas.Column.{Column}
 use Rattle.sv_app.specs.declared.txns.Expr.{Expr}
 use Rattle.sv_app.specs.Schema.{Declaration}
 use Rattle.sv_app.specs.Scopes.{Scope}
@@ -39,6 +42,13 @@ pub no_value : {T : Type 0} (f : T → Ident) (at : Scope) (d : Declaration) (pl
 no_value f at d place xs es i held goal h before = sym (ap (noted held) (none_left at d place (map f (drop i xs)) _ (ap terms_of (past_end es i h)))) ∙ before
 
 pub ruleset pairing = (one_value, no_value)
+
+-- one more column was looked at
+pub drawn_more : (p : Ident → Bool) (xs : List Column) (i : ℕ) (x : Column) (before now : List Ident) → i < length xs → x ≡ get_or xs i x
+    → before ≡ filter p (map (λ (c : Column). c.name) (take i xs)) → now ≡ before ++ filter p (x.name ∷ []) → now ≡ filter p (map (λ (c : Column). c.name) (take (i + 1) xs))
+drawn_more p xs i x before now h is so_far step =
+    step ∙ ap (λ names. names ++ filter p (x.name ∷ [])) so_far ∙ sym (filter-append p (map (λ (c : Column). c.name) (take i xs)) (x.name ∷ []))
+    ∙ ap (filter p) (sym (map_push (λ (c : Column). c.name) (take i xs) x) ∙ ap (λ y. map (λ (c : Column). c.name) (take i xs ++ y ∷ [])) is ∙ ap (map (λ (c : Column). c.name)) (sym (take_more xs i x h)))
 
 pub set_names : (sets : List (Ident × Expr)) → map (λ (s : Ident × Term). s.0) (sets_of sets) ≡ map (λ (s : Ident × Expr). s.0) sets
 set_names [] = refl

@@ -1,6 +1,7 @@
 ghost use Rattle.std.specs.Prelude.{◌≡◌};
-ghost use Rattle.std.specs.List.{flat_map};
+ghost use Rattle.std.specs.List.{flat_map, list_all};
 ghost use Rattle.sv_app.specs.declared.refusals.Code.TheVariants.{Typing};
+ghost use Rattle.sv_app.specs.Lookups.{is_named};
 ghost use Rattle.sv_app.specs.Schema.{declaration_of};
 ghost use Rattle.sv_app.specs.Typing.{fault_if, no_column, another_key, key_faults, column_faults, is_only_key, is_misplaced, is_merged_wrong};
 ghost use Rattle.sv_app.specs.Kinds.{is_annotated};
@@ -47,11 +48,18 @@ pub fn note_keys(first: &mut First, table: &Table)
     note_unknown_keys(first, table);
 }
 
+/// Whether all of the names are this one.
+fn are_all(names: &[Ident], column: &Ident) -> bool
+    ensures { result ≡ list_all (λ name. is_named name column.now) names.now }
+{
+    names.iter().all(|name| is_named(name, column))
+}
+
 /// Whether the key names this column and no other.
 fn is_only_key(table: &Table, column: &Ident) -> bool
     ensures { result ≡ is_only_key (declaration_of table.now) column.now }
 {
-    is_key(table, column) && table.key.iter().all(|name| is_named(name, column))
+    is_key(table, column) && are_all(&table.key, column)
 }
 
 fn is_annotated(kind: Kind) -> bool
@@ -72,9 +80,7 @@ fn is_merged_wrong(table: &Table, column: &Column) -> bool
         Merge::Lww => is_key(table, &column.name),
         Merge::NumDelta => is_key(table, &column.name) || is_text(column.ty),
         Merge::Fresh => {
-            !(is_int(column.ty)
-                && is_only_key(table, &column.name)
-                && is_annotated(table.kind))
+            !(is_int(column.ty) && is_only_key(table, &column.name) && is_annotated(table.kind))
         }
     }
 }

@@ -1,8 +1,8 @@
-ghost use Rattle.std.specs.Prelude.{◌≡◌, ◌&&◌, IfOk, OnOk, map};
+ghost use Rattle.std.specs.Prelude.{◌≡◌, ◌&&◌, ◌++◌, [], ◌∷◌, not, filter, IfOk, OnOk, map};
 ghost use Rattle.std.specs.List.{flat_map};
 ghost use Rattle.std.specs.Option.{option_map, is_none};
 ghost use Rattle.sv_app.specs.Kinds.{kind_allows, keys_allow, is_drawn, is_fresh, allows};
-ghost use Rattle.sv_app.specs.Lookups.{column_of as column_meant, table_of as table_meant};
+ghost use Rattle.sv_app.specs.Lookups.{column_of as column_meant, table_of as table_meant, is_key};
 ghost use Rattle.sv_app.specs.Schema.{declaration_of, schema_of};
 ghost use Rattle.sv_app.specs.Scopes.{updating};
 ghost use Rattle.sv_app.specs.Trees.{term_of, terms_of, sets_of};
@@ -66,10 +66,7 @@ fn kind_allows(kind: Kind, act: Act) -> bool
 fn is_fresh(table: &Table) -> bool
     ensures { result ≡ is_fresh (declaration_of table.now) }
 {
-    table
-        .columns
-        .iter()
-        .any(|column| is_drawn(column.merge) && is_key(table, &column.name))
+    table.columns.iter().any(|column| is_drawn(column.merge) && is_key(table, &column.name))
 }
 
 fn keys_allow(fresh: bool, act: Act) -> bool
@@ -166,15 +163,24 @@ pub fn note_values<T: Named>(
     note_types(first, at, table, None, columns, exprs);
 }
 
+/// Appends the name of a column, unless it is one of the key.
+fn put_if_given(names: &mut Vec<Ident>, table: &Table, name: Ident) -> Result<(), NoMemory>
+    ensures { OnOk result (names.new.items ≡ names.old.items ++ filter (λ other. not (is_key (declaration_of table.now) other)) (name ∷ [])) }
+{
+    if !is_key(table, &name) {
+        names.push(name)?;
+    }
+    Ok(())
+}
+
 /// The columns but the key.
+#[tactic(auto, using(crate::proofs::ValueLaws::drawn_more))]
 fn drawn_columns(alloc: Global, table: &Table) -> Result<Vec<Ident>, NoMemory>
     ensures { IfOk result (λ names. names.items ≡ drawn_columns (declaration_of table.now)) }
 {
     let mut names = Vec::new(alloc);
     for column in &table.columns {
-        if !is_key(table, &column.name) {
-            names.push(column.name)?;
-        }
+        put_if_given(&mut names, table, column.name)?;
     }
     Ok(names)
 }
