@@ -1,3 +1,6 @@
+ghost use Rattle.std.specs.Prelude.{◌≡◌};
+ghost use Rattle.sv_app.specs.Lookups.{is_named};
+
 use crate::schemas::Table;
 use crate::txns::Txn;
 use sv_value::{Name, Spot};
@@ -8,6 +11,13 @@ pub struct Ident {
     pub name: Name,
     pub spot: Spot,
     pub num: u16,
+}
+
+/// Whether both are one name.
+pub fn is_named(name: &Ident, other: &Ident) -> bool
+    ensures { result ≡ is_named name.now other.now }
+{
+    name.name.bytes() == other.name.bytes()
 }
 
 /// The tables and transactions of a document.

@@ -1,5 +1,11 @@
 ghost use Rattle.std.specs.Prelude.{◌≡◌, ◌≤◌};
 ghost use Rattle.sv_app.specs.Draws.{DrawsDiffer, first_key};
+ghost use Rattle.sv_app.specs.Kinds.{is_drawn, is_fresh};
+ghost use Rattle.sv_app.specs.Lookups.{is_key};
+ghost use Rattle.sv_app.specs.Schema.{declaration_of};
+
+use crate::apps::{Ident, is_named};
+use crate::schemas::{Merge, Table};
 
 /// The least key that is drawn; smaller ones are left to initial rows.
 pub const FIRST_OF_ALL: i64 = 1_000_000_000_000;
@@ -19,3 +25,31 @@ pub fn first_key(session: u16, index: u32) -> i64
 pub fn draws_differ()
     ensures { DrawsDiffer }
 {}
+
+fn is_drawn(merge: Merge) -> bool
+    ensures { result ≡ is_drawn merge }
+{
+    match merge {
+        Merge::Fresh => true,
+        Merge::Plain => false,
+        Merge::Lww => false,
+        Merge::NumDelta => false,
+    }
+}
+
+/// Whether the name is one of those of the table's primary key.
+fn is_key(table: &Table, name: &Ident) -> bool
+    ensures { result ≡ is_key (declaration_of table.now) name.now }
+{
+    table.key.iter().any(|key| is_named(key, name))
+}
+
+/// Whether the table draws its keys.
+pub fn is_fresh(table: &Table) -> bool
+    ensures { result ≡ is_fresh (declaration_of table.now) }
+{
+    table
+        .columns
+        .iter()
+        .any(|column| is_drawn(column.merge) && is_key(table, &column.name))
+}

@@ -18,8 +18,8 @@ mod txns;
 mod words;
 
 pub use acts::Act;
-pub use apps::{App, Ident};
-pub use draws::{FIRST_OF_ALL, draws_differ, first_key};
+pub use apps::{App, Ident, is_named};
+pub use draws::{FIRST_OF_ALL, draws_differ, first_key, is_fresh};
 pub use gots::Got;
 pub use instances::{Instance, Source};
 pub use names::{Declared, Known, Meaning};
