@@ -4,8 +4,7 @@ ghost use Rattle.sv_app.specs.Kinds.{is_drawn, is_fresh};
 ghost use Rattle.sv_app.specs.Lookups.{is_key};
 ghost use Rattle.sv_app.specs.Schema.{declaration_of};
 
-use crate::apps::{Ident, is_named};
-use crate::schemas::{Merge, Table};
+use crate::schemas::{Merge, Table, is_key};
 
 /// The least key that is drawn; smaller ones are left to initial rows.
 pub const FIRST_OF_ALL: i64 = 1_000_000_000_000;
@@ -35,13 +34,6 @@ fn is_drawn(merge: Merge) -> bool
         Merge::Lww => false,
         Merge::NumDelta => false,
     }
-}
-
-/// Whether the name is one of those of the table's primary key.
-fn is_key(table: &Table, name: &Ident) -> bool
-    ensures { result ≡ is_key (declaration_of table.now) name.now }
-{
-    table.key.iter().any(|key| is_named(key, name))
 }
 
 /// Whether the table draws its keys.

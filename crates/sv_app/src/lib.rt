@@ -28,6 +28,6 @@ pub use places::Place;
 pub use reasons::Reason;
 pub use refusals::{Code, Refusal, Stop};
 pub use requests::{Arg, InitRow, Request};
-pub use schemas::{Check, Column, Inv, InvBody, Kind, Merge, Table, Ty};
-pub use txns::{Cond, Expr, Rel, Stmt, Txn};
+pub use schemas::{Check, Column, Inv, InvBody, Kind, Merge, Table, Ty, is_key};
+pub use txns::{Cond, Expr, Rel, Stmt, Txn, spot_of};
 pub use words::is_reserved;

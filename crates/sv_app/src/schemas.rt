@@ -1,4 +1,8 @@
-use crate::apps::Ident;
+ghost use Rattle.std.specs.Prelude.{◌≡◌};
+ghost use Rattle.sv_app.specs.Lookups.{is_key};
+ghost use Rattle.sv_app.specs.Schema.{declaration_of};
+
+use crate::apps::{Ident, is_named};
 use sv_value::{Spot, Text};
 
 /// What may be done to the rows of a table.
@@ -95,4 +99,11 @@ pub struct Table {
     pub key: Vec<Ident>,
     pub second_key: Option<Ident>,
     pub invs: Vec<Inv>,
+}
+
+/// Whether the name is one of those of the table's primary key.
+pub fn is_key(table: &Table, name: &Ident) -> bool
+    ensures { result ≡ is_key (declaration_of table.now) name.now }
+{
+    table.key.iter().any(|key| is_named(key, name))
 }

@@ -1,3 +1,7 @@
+ghost use Rattle.std.specs.Prelude.{◌≡◌};
+ghost use Rattle.sv_app.specs.TermTypes.{spot_of};
+ghost use Rattle.sv_app.specs.Trees.{term_of};
+
 use crate::apps::Ident;
 use crate::schemas::Ty;
 use sv_value::{Spot, Text};
@@ -104,4 +108,21 @@ pub struct Txn {
     pub name: Ident,
     pub params: Vec<(Ident, Ty)>,
     pub body: Vec<Stmt>,
+}
+
+/// The place of an expression's first token.
+pub fn spot_of(expr: &Expr) -> Spot
+    ensures { result ≡ spot_of (term_of expr.now) }
+{
+    match expr {
+        Expr::Int(_, spot)
+        | Expr::Text(_, spot)
+        | Expr::Var(_, spot)
+        | Expr::Field { spot, .. }
+        | Expr::Old(_, spot)
+        | Expr::Neg(_, spot)
+        | Expr::Add(_, _, spot)
+        | Expr::Sub(_, _, spot)
+        | Expr::Mul(_, _, spot) => *spot,
+    }
 }

@@ -8,10 +8,10 @@ ghost use Rattle.sv_app.specs.Kinds.{is_annotated};
 ghost use Rattle.sv_typing.specs.Noted.{noted};
 
 use crate::firsts::First;
-use crate::lookups::{column_of, is_key};
-use crate::named::{is_named, note_repeats};
+use crate::lookups::column_of;
+use crate::named::note_repeats;
 use crate::types::{is_int, is_text};
-use sv_app::{Code, Column, Ident, Kind, Merge, Table};
+use sv_app::{Code, Column, Ident, Kind, Merge, Table, is_key, is_named};
 
 /// Notes a name that is no column of the table.
 pub fn note_no_column(first: &mut First, table: &Table, name: &Ident)

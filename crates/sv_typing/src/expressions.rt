@@ -12,9 +12,9 @@ ghost use Rattle.sv_typing.specs.Standing.{scope_of};
 use crate::firsts::First;
 use crate::references::has_no_column;
 use crate::scopes::{Scope, meaning_of};
-use crate::terms::{are_apart, spot_of, type_of};
+use crate::terms::{are_apart, type_of};
 use crate::types::is_text;
-use sv_app::{Code, Cond, Expr, Ident, Meaning, Rel, Table, Ty};
+use sv_app::{Code, Cond, Expr, Ident, Meaning, Rel, Table, Ty, spot_of};
 use sv_value::Spot;
 
 /// Whether it is a list parameter or a row.

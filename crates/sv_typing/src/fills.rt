@@ -9,10 +9,9 @@ ghost use Rattle.sv_app.specs.Trees.{Field, term_of, terms_of, sets_of, test_of}
 ghost use Rattle.sv_app.specs.TxnNumbers.{columns_of, numbered_name, numbered_table_name, numbered_term, numbered_terms, numbered_test, numbered_set};
 ghost use Rattle.sv_typing.specs.Standing.{naming_of, IsSmall};
 
-use crate::named::is_named;
 use crate::numbers::{number_in, number_table, number_target};
 use std::alloc::Global;
-use sv_app::{Column, Cond, Declared, Expr, Ident, Table};
+use sv_app::{Column, Cond, Declared, Expr, Ident, Table, is_named};
 use sv_value::{NoMemory, Spot};
 
 /// The names that have numbers: the tables, those that the transaction declares, and, behind `set`, the columns of the

@@ -7,10 +7,9 @@ ghost use Rattle.sv_typing.specs.Noted.{noted};
 
 use crate::columns::note_no_column;
 use crate::firsts::{First, is_same_place};
-use crate::lookups::{column_of, is_key};
-use crate::named::is_named;
+use crate::lookups::column_of;
 use crate::types::{is_numdelta, is_text};
-use sv_app::{Check, Code, Ident, Table};
+use sv_app::{Check, Code, Ident, Table, is_key, is_named};
 
 /// Whether it is a column that no check may name.
 fn is_never_checked(table: &Table, name: &Ident) -> bool

@@ -1,10 +1,9 @@
 ghost use Rattle.std.specs.Prelude.{◌≡◌, MatchOption};
 ghost use Rattle.std.specs.Prelude.{None as none, Some as some};
-ghost use Rattle.sv_app.specs.Lookups.{column_of, table_of, is_key};
+ghost use Rattle.sv_app.specs.Lookups.{column_of, table_of};
 ghost use Rattle.sv_app.specs.Schema.{declaration_of, schema_of};
 
-use crate::named::is_named;
-use sv_app::{Column, Ident, Table};
+use sv_app::{Column, Ident, Table, is_named};
 
 /// The first column of that name.
 #[tactic(auto, using(crate::proofs::LookupLaws::finds))]
@@ -30,11 +29,4 @@ pub fn table_of<'a>(tables: &'a [Table], name: &Ident) -> Option<&'a Table>
         }
     }
     None
-}
-
-/// Whether the name is one of those of the table's primary key.
-pub fn is_key(table: &Table, name: &Ident) -> bool
-    ensures { result ≡ is_key (declaration_of table.now) name.now }
-{
-    table.key.iter().any(|key| is_named(key, name))
 }

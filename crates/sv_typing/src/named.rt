@@ -7,7 +7,7 @@ ghost use Rattle.sv_app.specs.Typing.{repeats, fault_if};
 ghost use Rattle.sv_typing.specs.Noted.{noted};
 
 use crate::firsts::First;
-use sv_app::{Code, Column, Declared, Expr, Ident, Table, Txn};
+use sv_app::{Code, Column, Declared, Expr, Ident, Table, Txn, is_named};
 
 /// What has a name where it stands.
 pub trait Named {
@@ -64,13 +64,6 @@ impl Named for (Ident, Expr) {
     fn ident(&self) -> Ident {
         self.0
     }
-}
-
-/// Whether both are one name.
-pub fn is_named(name: &Ident, other: &Ident) -> bool
-    ensures { result ≡ is_named name.now other.now }
-{
-    name.name.bytes() == other.name.bytes()
 }
 
 /// The place of the first item of that name.

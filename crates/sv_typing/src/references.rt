@@ -8,9 +8,9 @@ ghost use Rattle.sv_typing.specs.Noted.{noted};
 
 use crate::columns::note_no_column;
 use crate::firsts::First;
-use crate::lookups::{column_of, is_key, table_of};
+use crate::lookups::{column_of, table_of};
 use crate::types::{is_numdelta, is_same_type};
-use sv_app::{Code, Column, Ident, Table};
+use sv_app::{Code, Column, Ident, Table, is_key};
 
 /// Whether it is a NUMDELTA column.
 fn is_counter(table: &Table, name: &Ident) -> bool

@@ -4,9 +4,8 @@ ghost use Rattle.sv_app.specs.Scopes.{parameter, updating};
 ghost use Rattle.sv_app.specs.Scopes.{meaning_of as meant};
 ghost use Rattle.sv_typing.specs.Standing.{scope_of, in_block};
 
-use crate::named::is_named;
 use std::alloc::Global;
-use sv_app::{Ident, Known, Meaning, Table, Ty};
+use sv_app::{Ident, Known, Meaning, Table, Ty, is_named};
 use sv_value::NoMemory;
 
 /// What stands around an expression: the tables, the names that may be used there, the latest first, and, behind `set`,

@@ -14,10 +14,10 @@ use crate::changes::{note_fetch, note_fresh, note_insert, note_remove, note_upda
 use crate::expressions::{note_condition, note_term, note_test};
 use crate::firsts::First;
 use crate::scopes::{Scope, meaning_of, with_name};
-use crate::terms::{are_apart, spot_of, type_of};
+use crate::terms::{are_apart, type_of};
 use crate::values::note_no_table;
 use std::alloc::Global;
-use sv_app::{Code, Cond, Expr, Ident, Known, Meaning, Parts, Stmt, Table, Ty, parts_of};
+use sv_app::{Code, Cond, Expr, Ident, Known, Meaning, Parts, Stmt, Table, Ty, parts_of, spot_of};
 use sv_value::NoMemory;
 
 /// Notes what is wrong with the variable that is assigned to, and with the type of its value.

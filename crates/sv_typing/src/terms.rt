@@ -1,6 +1,6 @@
 ghost use Rattle.std.specs.Prelude.{◌≡◌};
 ghost use Rattle.sv_app.specs.Trees.{term_of};
-ghost use Rattle.sv_app.specs.TermTypes.{value_type, type_meant, column_type, field_type, old_type, type_of, spot_of, are_apart};
+ghost use Rattle.sv_app.specs.TermTypes.{value_type, type_meant, column_type, field_type, old_type, type_of, are_apart};
 ghost use Rattle.std.specs.Option.{option_map};
 ghost use Rattle.sv_app.specs.Lookups.{column_of as column_meant};
 ghost use Rattle.sv_app.specs.Schema.{declaration_of, schema_of};
@@ -80,23 +80,6 @@ pub fn type_of(at: &Scope, expr: &Expr) -> Option<Ty>
         Expr::Int(..) | Expr::Neg(..) | Expr::Add(..) | Expr::Sub(..) | Expr::Mul(..) => {
             Some(Ty::Int)
         }
-    }
-}
-
-/// The place of its first token.
-pub fn spot_of(expr: &Expr) -> Spot
-    ensures { result ≡ spot_of (term_of expr.now) }
-{
-    match expr {
-        Expr::Int(_, spot)
-        | Expr::Text(_, spot)
-        | Expr::Var(_, spot)
-        | Expr::Field { spot, .. }
-        | Expr::Old(_, spot)
-        | Expr::Neg(_, spot)
-        | Expr::Add(_, _, spot)
-        | Expr::Sub(_, _, spot)
-        | Expr::Mul(_, _, spot) => *spot,
     }
 }
 

@@ -1,6 +1,5 @@
 ghost use Rattle.std.specs.Prelude.{◌≡◌};
 ghost use Rattle.sv_app.specs.Typing.{is_text, is_int, is_same_type, is_numdelta};
-ghost use Rattle.sv_app.specs.Kinds.{is_drawn};
 
 use sv_app::{Merge, Ty};
 
@@ -24,12 +23,6 @@ pub fn is_same_type(ty: Ty, other: Ty) -> bool
         Ty::Text => matches!(other, Ty::Text),
         Ty::Ints => matches!(other, Ty::Ints),
     }
-}
-
-pub fn is_drawn(merge: Merge) -> bool
-    ensures { result ≡ is_drawn merge }
-{
-    matches!(merge, Merge::Fresh)
 }
 
 pub fn is_numdelta(merge: Merge) -> bool

@@ -1,7 +1,7 @@
 ghost use Rattle.std.specs.Prelude.{◌≡◌, ◌&&◌, ◌++◌, [], ◌∷◌, not, filter, IfOk, OnOk, map};
 ghost use Rattle.std.specs.List.{flat_map};
 ghost use Rattle.std.specs.Option.{option_map, is_none};
-ghost use Rattle.sv_app.specs.Kinds.{kind_allows, keys_allow, is_drawn, is_fresh, allows};
+ghost use Rattle.sv_app.specs.Kinds.{kind_allows, keys_allow, allows};
 ghost use Rattle.sv_app.specs.Lookups.{column_of as column_meant, table_of as table_meant, is_key};
 ghost use Rattle.sv_app.specs.Schema.{declaration_of, schema_of};
 ghost use Rattle.sv_app.specs.Scopes.{updating};
@@ -13,14 +13,13 @@ ghost use Rattle.sv_typing.specs.Standing.{scope_of};
 use crate::columns::note_no_column;
 use crate::expressions::note_term;
 use crate::firsts::First;
-use crate::lookups::{column_of, is_key};
+use crate::lookups::column_of;
 use crate::named::Named;
 use crate::references::is_no_table;
 use crate::scopes::Scope;
-use crate::terms::{are_apart, spot_of, type_in_table, type_of};
-use crate::types::is_drawn;
+use crate::terms::{are_apart, type_in_table, type_of};
 use std::alloc::Global;
-use sv_app::{Act, Code, Expr, Ident, Kind, Table};
+use sv_app::{Act, Code, Expr, Ident, Kind, Table, is_fresh, is_key, spot_of};
 use sv_value::{NoMemory, Spot};
 
 /// Notes what is wrong with these expressions.
@@ -60,13 +59,6 @@ fn kind_allows(kind: Kind, act: Act) -> bool
             Act::Remove => false,
         },
     }
-}
-
-/// Whether the table draws its keys.
-fn is_fresh(table: &Table) -> bool
-    ensures { result ≡ is_fresh (declaration_of table.now) }
-{
-    table.columns.iter().any(|column| is_drawn(column.merge) && is_key(table, &column.name))
 }
 
 fn keys_allow(fresh: bool, act: Act) -> bool
