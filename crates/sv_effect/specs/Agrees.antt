@@ -9,6 +9,7 @@ use Rattle.sv_value.specs.declared.values.Key.{Key}
 use Rattle.sv_app.specs.declared.places.Place.{Place}
 use Rattle.sv_app.specs.Tables as tables
 use Rattle.sv_app.specs.Tables.{Tables}
+pub use Rattle.sv_app.specs.Valid.{place_at}
 use Rattle.sv_effect.specs.declared.reads.Ask.{Ask}
 use Rattle.sv_effect.specs.declared.reads.Ask.TheVariants.{Row, Next}
 use Rattle.sv_effect.specs.Reads.{SeenValue, Answer, IsRow, IsKey, ReadValue}
@@ -16,9 +17,6 @@ use Rattle.sv_effect.specs.Reads.{SeenValue, Answer, IsRow, IsKey, ReadValue}
 -- the key behind a reference, if there is one
 abbrev pub key_behind : Option (Bor Key) → Option Key
 key_behind after = option_map (λ key. key.now) after
-
-abbrev pub place_at : ℕ → Key → Place
-place_at table key = record { table = table; key = key }
 
 -- a row that is kept has its values; one that isn't has none, and isn't present
 abbrev pub seen_in : Option tables.Row → SeenValue
@@ -35,12 +33,16 @@ abbrev pub is_after : Option Key → Key → Bool
 is_after None key = true
 is_after (Some after) key = is_lt (key_cmp after key)
 
+-- the least key after the given one at which the test holds, or none
+abbrev pub IsNextBy : (Key → Bool) → Option Key → Option Key → Type 0
+IsNextBy p after None = (key : Key) → is_after after key ≡ true → p key ≡ false
+IsNextBy p after (Some next) =
+    (is_after after next ≡ true) × (p next ≡ true)
+    × ((key : Key) → is_after after key ≡ true → is_lt (key_cmp key next) ≡ true → p key ≡ false)
+
 -- the least key after the given one whose row is present, or none if there is none
 abbrev pub IsNextKey : Tables → ℕ → Option Key → Option Key → Type 0
-IsNextKey t table after None = (key : Key) → is_after after key ≡ true → is_present t table key ≡ false
-IsNextKey t table after (Some next) =
-    (is_after after next ≡ true) × (is_present t table next ≡ true)
-    × ((key : Key) → is_after after key ≡ true → is_lt (key_cmp key next) ≡ true → is_present t table key ≡ false)
+IsNextKey t table after next = IsNextBy (is_present t table) after next
 
 -- the answer is what the tables give
 abbrev pub Gives : Tables → Ask → Answer → Type 0

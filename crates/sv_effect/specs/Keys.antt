@@ -1,22 +1,17 @@
 -- The keys at which a test holds, from one to the next.
-use Rattle.std.specs.Prelude.{◌≡◌, ◌==◌, ◌<◌, ◌≤◌, ℕ, Bool, true, false, List, [], ◌∷◌, ◌++◌, length, Option, Some, None, if◌then◌else◌}
+use Rattle.std.specs.Prelude.{◌≡◌, ◌==◌, ◌<◌, ◌≤◌, ℕ, Bool, List, [], ◌∷◌, ◌++◌, length, Option, Some, None, if◌then◌else◌}
 use Rattle.std.specs.List.{insert, remove}
-use Rattle.std.specs.Ordering.{is_lt}
 use Rattle.std.specs.declared.cmp.Ordering.{Ordering}
 use Rattle.std.specs.declared.cmp.Ordering.TheVariants.{Less, Equal, Greater}
 use Rattle.sv_value.specs.declared.values.Key.{Key}
 use Rattle.sv_value.specs.Orders.{key_cmp}
 use Rattle.sv_app.specs.declared.places.Place.{Place}
 use Rattle.sv_effect.specs.declared.left.LeftRow.{LeftRow}
-use Rattle.sv_effect.specs.Agrees.{is_after, is_present}
+pub use Rattle.sv_effect.specs.Agrees.{IsNextBy}
+use Rattle.sv_effect.specs.Agrees.{is_present}
 use Rattle.sv_effect.specs.Faces.{Face}
 use Rattle.sv_effect.specs.Follows.{Follows}
 use Rattle.sv_effect.specs.Reads.{ReadValue}
-
--- the least key after the given one at which the test holds, or none
-abbrev pub IsNextBy : (Key → Bool) → Option Key → Option Key → Type 0
-IsNextBy p after None = (key : Key) → is_after after key ≡ true → p key ≡ false
-IsNextBy p after (Some next) = (is_after after next ≡ true) × (p next ≡ true) × ((key : Key) → is_after after key ≡ true → is_lt (key_cmp key next) ≡ true → p key ≡ false)
 
 abbrev pub Walks : (Key → Bool) → Option Key → List Key → Type 0
 Walks p after [] = IsNextBy p after None
