@@ -42,7 +42,8 @@ IsNextBy p after (Some next) =
 
 -- the least key after the given one whose row is present, or none if there is none
 abbrev pub IsNextKey : Tables → ℕ → Option Key → Option Key → Type 0
-IsNextKey t table after next = IsNextBy (is_present t table) after next
+IsNextKey t table after None = IsNextBy (is_present t table) after None
+IsNextKey t table after (Some next) = IsNextBy (is_present t table) after (Some next)
 
 -- the answer is what the tables give
 abbrev pub Gives : Tables → Ask → Answer → Type 0
