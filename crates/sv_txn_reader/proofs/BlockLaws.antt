@@ -16,7 +16,7 @@ use Rattle.sv_txn_reader.specs.declared.counts.Counts.{Counts}
 use Rattle.sv_txn_reader.specs.declared.heads.Head.{Head}
 use Rattle.sv_txn_reader.specs.declared.heads.Head.TheVariants as heads
 use Rattle.sv_txn_reader.specs.Grammar.{◌·◌, mark, command, statements}
-use Rattle.sv_txn_reader.specs.Reading.{head_named, Counted, Several, Blocks, head_at, may_begin, with_head, with_counts, let_at, assign_at, get_at, if_at, for_at, each_at, insert_at, update_at, remove_at, abort_at, reply_at, setting_at, cond_at, expr_at, literal_at, disjunctions_with, conjunctions_with, literal_with, comparison_at, factor_at, sums_with, products_with, factor_with, leaf_at, statement_step, goes_on, inside_at, braces_at, block_at}
+use Rattle.sv_txn_reader.specs.Reading.{head_named, Counted, Several, Blocks, head_at, may_begin, with_head, with_counts, variable_at, let_at, assign_at, get_at, if_at, for_at, each_at, insert_at, fresh_at, update_at, remove_at, abort_at, reply_at, setting_at, cond_at, expr_at, literal_at, disjunctions_with, conjunctions_with, literal_with, comparison_at, factor_at, sums_with, products_with, factor_with, leaf_at, statement_step, goes_on, inside_at, braces_at, block_at}
 use Rattle.sv_txn_reader.specs.Standing.{counts, plus, command_counts, block_counts}
 use Rattle.sv_txn_reader.proofs.CommandLaws.{standing, one, plus_zero, plus_assoc, Blk, BlocksLaw, block_first, is_else, Cmd, branch, cmd_at, starts, starts_alike, misplaced, by_head, cmd_law, cmd_starts}
 use Rattle.sv_txn_reader.proofs.HeadLaws.{head_token}
@@ -35,7 +35,7 @@ abbrev kinded : TokenKind → Token → List Token
 kinded k token = record { kind = k; «from» = token.«from»; to = token.to; spot = token.spot } ∷ []
 
 let_short : (n : Counts) (token : Token) → let_at n (kinded (Name (codes "let")) token) ≡ refuse Syntax []
-unfolding let_at setting_at
+unfolding let_at variable_at setting_at
 let_short n token = refl
 
 get_short : (token : Token) → get_at (kinded (Name (codes "get")) token) ≡ refuse Syntax []
@@ -45,6 +45,10 @@ get_short token = refl
 insert_short : (token : Token) → insert_at (kinded (Name (codes "insert")) token) ≡ refuse Syntax []
 unfolding insert_at
 insert_short token = refl
+
+fresh_short : (n : Counts) (token : Token) → fresh_at n (kinded (Name (codes "fresh")) token) ≡ refuse Syntax []
+unfolding fresh_at variable_at
+fresh_short n token = refl
 
 update_short : (token : Token) → update_at (kinded (Name (codes "update")) token) ≡ refuse Syntax []
 unfolding update_at
@@ -112,6 +116,10 @@ goes depth looped before blocks inner token heads.Get e = let t = head_token tok
 goes depth looped before blocks inner token heads.Assign e = let t = head_token token [] heads.Assign e in Short (counted (plus before one) assign_at (token ∷ []) (ap (λ x. assign_at (x ∷ [])) (as_kind token (Name t.0) t.1) ∙ assign_short token t.0 t.2))
 goes depth looped before blocks inner token heads.If e = let t = head_token token [] heads.If e in Short (ap (λ x. if_at blocks looped (plus before one) (x ∷ [])) (as_kind token (Name (codes "if")) (t.1 ∙ ap Name t.2)) ∙ if_short blocks looped (plus before one) token)
 goes depth looped before blocks inner token heads.Insert e = let t = head_token token [] heads.Insert e in Short (counted (plus before one) insert_at (token ∷ []) (ap (λ x. insert_at (x ∷ [])) (as_kind token (Name (codes "insert")) (t.1 ∙ ap Name t.2)) ∙ insert_short token))
+goes depth looped before blocks inner token heads.Fresh e =
+    let t = head_token token [] heads.Fresh e in
+    Short (ap (λ x. fresh_at (plus before one) (x ∷ [])) (as_kind token (Name (codes "fresh")) (t.1 ∙ ap Name t.2))
+    ∙ fresh_short (plus before one) token)
 goes depth looped before blocks inner token heads.Update e = let t = head_token token [] heads.Update e in Short (counted (plus before one) update_at (token ∷ []) (ap (λ x. update_at (x ∷ [])) (as_kind token (Name (codes "update")) (t.1 ∙ ap Name t.2)) ∙ update_short token))
 goes depth looped before blocks inner token heads.Remove e = let t = head_token token [] heads.Remove e in Short (counted (plus before one) remove_at (token ∷ []) (ap (λ x. remove_at (x ∷ [])) (as_kind token (Name (codes "remove")) (t.1 ∙ ap Name t.2)) ∙ remove_short token))
 goes depth looped before blocks inner token heads.Abort e = let t = head_token token [] heads.Abort e in Short (counted (plus before one) abort_at (token ∷ []) (ap (λ x. abort_at (x ∷ [])) (as_kind token (Name (codes "abort")) (t.1 ∙ ap Name t.2)) ∙ abort_short token))

@@ -5,7 +5,7 @@ use Rattle.sv_lex.specs.declared.tokens.Token.{Token}
 use Rattle.sv_lex.specs.declared.tokens.TokenKind.TheVariants.{Name, Mark}
 use Rattle.sv_app.specs.declared.apps.Ident.{Ident}
 use Rattle.sv_app.specs.declared.refusals.Code.TheVariants.{Syntax, Many}
-use Rattle.sv_app.specs.Trees.{Term, Test, Command, Declare, Assign, Fetch, Choose, ForRows, ForEach, Insert, Update, Remove, Abort, Reply, Block, Finish, block_from}
+use Rattle.sv_app.specs.Trees.{Term, Test, Command, Declare, Assign, Fetch, Choose, ForRows, ForEach, Insert, Fresh, Update, Remove, Abort, Reply, Block, Finish, block_from}
 use Rattle.sv_app.specs.Trees as trees
 use Rattle.sv_reader.specs.declared.faults.ReadFault.{ReadFault}
 use Rattle.sv_reader.specs.Reading.{Read, ◌>>=◌, refuse, is_kind, is_next, name_at, given, found_at, kind_at}
@@ -14,7 +14,7 @@ use Rattle.sv_txn_reader.specs.declared.counts.Counts.{Counts}
 use Rattle.sv_txn_reader.specs.declared.heads.Head.{Head}
 use Rattle.sv_txn_reader.specs.declared.heads.Head.TheVariants as heads
 use Rattle.sv_txn_reader.specs.Grammar.{◌·◌, nothing, mark, word, name, limit, setting, cond as condition, where_part, command, statements, braced, otherwise}
-use Rattle.sv_txn_reader.specs.Reading.{Counted, Several, Blocks, head_at, may_begin, with_head, with_counts, let_at, assign_at, get_at, if_at, else_at, where_at, for_at, each_at, loop_at, insert_at, update_at, remove_at, abort_at, reply_at}
+use Rattle.sv_txn_reader.specs.Reading.{Counted, Several, Blocks, head_at, may_begin, with_head, with_counts, let_at, assign_at, get_at, if_at, else_at, where_at, for_at, each_at, loop_at, insert_at, fresh_at, update_at, remove_at, abort_at, reply_at}
 use Rattle.sv_txn_reader.specs.Standing.{Standing, counts, plus, command_counts, block_counts}
 use Rattle.sv_txn_reader.proofs.ExprLaws.{cond_law}
 use Rattle.sv_txn_reader.proofs.HeadLaws.{head_of, HeadWord, head_token, head_alike, head_command, command_begins, kind_read}
@@ -25,7 +25,7 @@ use Rattle.sv_txn_reader.proofs.ListLaws.{or_false}
 use Rattle.sv_txn_reader.proofs.LiteralLaws.{disjoins}
 use Rattle.sv_reader.proofs.AnswerLaws.{next_alike}
 use Rattle.sv_txn_reader.proofs.PieceLaws.{kind_next, name_law, Made, take, take_last, skip, ended, Either, Left, Right, either_law}
-use Rattle.sv_txn_reader.proofs.SimpleLaws.{AssignWords, GetWords, InsertWords, UpdateWords, RemoveWords, AbortWords, ReplyWords, let_of, let_law, assign_law, get_law, insert_law, update_law, remove_law, abort_law, reply_law}
+use Rattle.sv_txn_reader.proofs.SimpleLaws.{AssignWords, GetWords, InsertWords, UpdateWords, RemoveWords, AbortWords, ReplyWords, FreshWords, let_of, fresh_of, let_law, assign_law, get_law, insert_law, fresh_law, update_law, remove_law, abort_law, reply_law}
 
 abbrev pub standing : ℕ → Bool → Counts → Standing
 standing d l n = record { depth = d; looped = l; before = n }
@@ -430,6 +430,16 @@ module _ (depth : ℕ) (looped : Bool) (before : Counts) (blocks : Blocks) (inne
       out i (Declare x e, k) l r c = record { «from» = ((x, e), tt); is = c.0.is; made = λ j. (Declare x e, (c.0.after ∙ sym (plus_assoc before one (counts 0 0 1))) j) }
       out i _ l r c = absurd (let e = c.1 in cc)
 
+  fresh_head : Law places is_else (HeadCmd heads.Fresh) (fresh_at n)
+  fresh_head = map_law (fresh_law is_else n) into out
+    where
+      into : (i : ℕ) (c : Counted) (l r : List Token) → Made (fresh_of n) (λ i x. word (codes "fresh") · limit i 32 (suc n.variables) · FreshWords i x) i c l r → HeadCmd heads.Fresh i c l r
+      into i c l r x = subst (λ z. HeadCmd heads.Fresh i z l r) (sym x.made) (record { is = x.is; after = plus_assoc before one (counts 0 0 1) }, refl)
+
+      out : (i : ℕ) (c : Counted) (l r : List Token) → HeadCmd heads.Fresh i c l r → Made (fresh_of n) (λ i x. word (codes "fresh") · limit i 32 (suc n.variables) · FreshWords i x) i c l r
+      out i (Fresh x t vs, k) l r c = record { «from» = (x, (t, (vs, tt))); is = c.0.is; made = λ j. (Fresh x t vs, (c.0.after ∙ sym (plus_assoc before one (counts 0 0 1))) j) }
+      out i _ l r c = absurd (let e = c.1 in cc)
+
   assign_head : Law places is_else (HeadCmd heads.Assign) (λ l. with_counts n (assign_at l))
   assign_head = simple heads.Assign (assign_law is_else) (λ i c l r x. subst (λ z. command i at z l r × (head_of z ≡ heads.Assign) × (command_counts z ≡ one)) (sym x.made) (x.is, refl, refl)) out
     where
@@ -500,6 +510,7 @@ module _ (depth : ℕ) (looped : Bool) (before : Counts) (blocks : Blocks) (inne
   branch_law heads.For e = map_law for_counted (for_into (not_looped looped e)) (λ i c l r x. for_out i c l r x.0 x.1)
   branch_law heads.Each e = map_law each_counted (each_into (not_looped looped e)) (λ i c l r x. each_out i c l r x.0 x.1)
   branch_law heads.Insert e = insert_head
+  branch_law heads.Fresh e = fresh_head
   branch_law heads.Update e = update_head
   branch_law heads.Remove e = remove_head
   branch_law heads.Abort e = abort_head
@@ -521,6 +532,7 @@ module _ (depth : ℕ) (looped : Bool) (before : Counts) (blocks : Blocks) (inne
   branch_same heads.Get l e = refl
   branch_same heads.If l e = refl
   branch_same heads.Insert l e = refl
+  branch_same heads.Fresh l e = refl
   branch_same heads.Update l e = refl
   branch_same heads.Remove l e = refl
   branch_same heads.Abort l e = refl

@@ -6,7 +6,7 @@ use Rattle.sv_lex.specs.declared.tokens.TokenKind.{TokenKind}
 use Rattle.sv_lex.specs.declared.tokens.TokenKind.TheVariants.{Name, Number, Text, Mark}
 use Rattle.sv_app.specs.declared.apps.Ident.{Ident}
 use Rattle.sv_app.specs.declared.refusals.Code.TheVariants.{Syntax}
-use Rattle.sv_app.specs.Trees.{Command, Declare, Assign, Fetch, Choose, ForRows, ForEach, Insert, Update, Remove, Abort, Reply}
+use Rattle.sv_app.specs.Trees.{Command, Declare, Assign, Fetch, Choose, ForRows, ForEach, Insert, Fresh, Update, Remove, Abort, Reply}
 use Rattle.sv_app.specs.Words.{is_reserved}
 use Rattle.sv_reader.specs.Reading.{refuse, by_word, given, is_kind, is_some, name_of, is_name, name_at, kind_at, found_at}
 use Rattle.sv_reader.proofs.KindLaws.{kind_same}
@@ -25,6 +25,7 @@ head_of (Choose c ys ns) = heads.If
 head_of (ForRows r t c body) = heads.For
 head_of (ForEach x l body) = heads.Each
 head_of (Insert t vs) = heads.Insert
+head_of (Fresh x t vs) = heads.Fresh
 head_of (Update t k sets) = heads.Update
 head_of (Remove t k) = heads.Remove
 head_of (Abort n) = heads.Abort
@@ -39,6 +40,7 @@ HeadWord heads.If w = w ≡ codes "if"
 HeadWord heads.For w = w ≡ codes "for"
 HeadWord heads.Each w = w ≡ codes "each"
 HeadWord heads.Insert w = w ≡ codes "insert"
+HeadWord heads.Fresh w = w ≡ codes "fresh"
 HeadWord heads.Update w = w ≡ codes "update"
 HeadWord heads.Remove w = w ≡ codes "remove"
 HeadWord heads.Abort w = w ≡ codes "abort"
@@ -61,9 +63,10 @@ last_given w h e = by_test (is_reserved w) refl e
 pub head_is : (w : List ℕ) (h : Head) → head_named w ≡ Some h → HeadWord h w
 head_is w h e =
     chosen w (codes "let") heads.Let _ h (λ e. e) (λ e. chosen w (codes "get") heads.Get _ h (λ e. e) (λ e. chosen w (codes "if") heads.If _ h (λ e. e) (λ e. chosen w (codes "for") heads.For _ h (λ e. e)
-    (λ e. chosen w (codes "each") heads.Each _ h (λ e. e) (λ e. chosen w (codes "insert") heads.Insert _ h (λ e. e) (λ e. chosen w (codes "update") heads.Update _ h (λ e. e)
+    (λ e. chosen w (codes "each") heads.Each _ h (λ e. e) (λ e. chosen w (codes "insert") heads.Insert _ h (λ e. e)
+    (λ e. chosen w (codes "fresh") heads.Fresh _ h (λ e. e) (λ e. chosen w (codes "update") heads.Update _ h (λ e. e)
     (λ e. chosen w (codes "remove") heads.Remove _ h (λ e. e) (λ e. chosen w (codes "abort") heads.Abort _ h (λ e. e) (λ e. chosen w (codes "reply") heads.Reply _ h (λ e. e)
-    (λ e. last_given w h e) e) e) e) e) e) e) e) e) e) e
+    (λ e. last_given w h e) e) e) e) e) e) e) e) e) e) e) e
 
 -- the token that a statement of a kind begins with
 pub head_token : (token : Token) (l : List Token) (h : Head) → head_at (token ∷ l) ≡ Some h → (w : List ℕ) × (token.kind ≡ Name w) × HeadWord h w
@@ -93,7 +96,12 @@ no_word w wanted reserved free = by_test (bytes_eq w wanted) refl
 pub free_head : (w : List ℕ) → is_reserved w ≡ false → head_named w ≡ Some heads.Assign
 unfolding is_reserved
 free_head w free =
-    over heads.Let (no_word w (codes "let") refl free) (over heads.Get (no_word w (codes "get") refl free) (over heads.If (no_word w (codes "if") refl free) (over heads.For (no_word w (codes "for") refl free) (over heads.Each (no_word w (codes "each") refl free) (over heads.Insert (no_word w (codes "insert") refl free) (over heads.Update (no_word w (codes "update") refl free) (over heads.Remove (no_word w (codes "remove") refl free) (over heads.Abort (no_word w (codes "abort") refl free) (over heads.Reply (no_word w (codes "reply") refl free) (ap (λ b. given (not b) heads.Assign) free))))))))))
+    over heads.Let (no_word w (codes "let") refl free) (over heads.Get (no_word w (codes "get") refl free)
+    (over heads.If (no_word w (codes "if") refl free) (over heads.For (no_word w (codes "for") refl free)
+    (over heads.Each (no_word w (codes "each") refl free) (over heads.Insert (no_word w (codes "insert") refl free)
+    (over heads.Fresh (no_word w (codes "fresh") refl free) (over heads.Update (no_word w (codes "update") refl free)
+    (over heads.Remove (no_word w (codes "remove") refl free) (over heads.Abort (no_word w (codes "abort") refl free)
+    (over heads.Reply (no_word w (codes "reply") refl free) (ap (λ b. given (not b) heads.Assign) free)))))))))))
   where
     over : {b : Bool} (a : Head) {others found : Option Head} → b ≡ false → others ≡ found → (if b then Some a else others) ≡ found
     over {b} a {others} {found} e more = ap (λ (x : Bool). cond x (Some a) others) e ∙ more
@@ -112,6 +120,7 @@ head_command i at (Choose c ys ns) l r is = word_head (codes "if") heads.If l is
 head_command i at (ForRows a t c body) l r is = ap head_at is.first.1.0 ∙ word_head (codes "for") heads.For is.middle is.second.middle refl is.second.first
 head_command i at (ForEach x s body) l r is = ap head_at is.first.1.0 ∙ word_head (codes "each") heads.Each is.middle is.second.middle refl is.second.first
 head_command i at (Insert t vs) l r is = word_head (codes "insert") heads.Insert l is.middle refl is.first
+head_command i at (Fresh x t vs) l r is = word_head (codes "fresh") heads.Fresh l is.middle refl is.first
 head_command i at (Update t k sets) l r is = word_head (codes "update") heads.Update l is.middle refl is.first
 head_command i at (Remove t k) l r is = word_head (codes "remove") heads.Remove l is.middle refl is.first
 head_command i at (Abort n) l r is = word_head (codes "abort") heads.Abort l is.middle refl is.first
@@ -130,6 +139,7 @@ command_begins i at (Assign x e) l r is = no_loop at.looped
 command_begins i at (Fetch a t k) l r is = no_loop at.looped
 command_begins i at (Choose c ys ns) l r is = no_loop at.looped
 command_begins i at (Insert t vs) l r is = no_loop at.looped
+command_begins i at (Fresh x t vs) l r is = no_loop at.looped
 command_begins i at (Update t k sets) l r is = no_loop at.looped
 command_begins i at (Remove t k) l r is = no_loop at.looped
 command_begins i at (Abort n) l r is = no_loop at.looped

@@ -9,9 +9,9 @@ use Rattle.sv_app.specs.declared.apps.Ident.{Ident}
 use Rattle.sv_app.specs.declared.schemas.Ty.{Ty}
 use Rattle.sv_app.specs.Depths.{term_depth, test_depth, depths, inner_depth, block_depth}
 use Rattle.sv_app.specs.Statements.{inner_statements, block_statements}
-use Rattle.sv_app.specs.Trees.{Term, Test, Command, Declare, Assign, Fetch, Choose, ForRows, ForEach, Insert, Update, Remove, Abort, Reply, Block, Finish, Then, Transaction}
+use Rattle.sv_app.specs.Trees.{Term, Test, Command, Declare, Assign, Fetch, Choose, ForRows, ForEach, Insert, Fresh, Update, Remove, Abort, Reply, Block, Finish, Then, Transaction}
 use Rattle.sv_app.specs.TxnConditions.{is_loop, is_declaration, loops_of, IsKey, KeepsStatement, KeepsTxnGrammar, IsSmallTxn, KeepsTxnLimits}
-use Rattle.sv_txn_reader.specs.Grammar.{expr, keys, index, setting, others, separated, where_part, looping, braced, otherwise, command, statements, more_params, params, transaction, transactions}
+use Rattle.sv_txn_reader.specs.Grammar.{expr, keys, index, setting, others, separated, listed, where_part, looping, braced, otherwise, command, statements, more_params, params, transaction, transactions}
 use Rattle.sv_txn_reader.specs.Refused.{AreRead}
 use Rattle.sv_txn_reader.specs.Standing.{Standing, outside, one_statement, deeper, in_loop, behind, past_command, command_counts, block_counts}
 use Rattle.sv_txn_reader.proofs.DepthLaws.{one_some, limit_kept, limit_some, expr_kept, cond_kept}
@@ -56,6 +56,10 @@ others_shallow (e ∷ vs) tokens rest is =
 values_shallow : (vs : List Term) (tokens rest : List Token) → separated (expr 0) vs tokens rest → AllShallow (map term_depth vs)
 values_shallow [] tokens rest is = absurd is
 values_shallow (e ∷ vs) tokens rest is = shallow_more (term_depth e) (map term_depth vs) (expr_kept e tokens is.middle is.first) (others_shallow vs is.middle rest is.second)
+
+listed_shallow : (vs : List Term) (tokens rest : List Token) → listed (expr 0) vs tokens rest → AllShallow (map term_depth vs)
+listed_shallow [] tokens rest is = shallow_none
+listed_shallow (e ∷ vs) tokens rest is = values_shallow (e ∷ vs) tokens rest is
 
 values_some : (vs : List Term) (tokens rest : List Token) → separated (expr 0) vs tokens rest → 1 ≤ length vs
 values_some [] tokens rest is = absurd is
@@ -113,15 +117,16 @@ pub record KeptCommand (at : Standing) (c : Command) : Type 0 where
   pub counts_variables : (command_counts c).variables ≡ length (filter is_declaration (command_statements c))
   pub some : 1 ≤ length (command_statements c)
 
--- a statement without blocks, that is neither a loop nor a declaration
-flat : (at : Standing) (c : Command) → command_statements c ≡ c ∷ [] → is_loop c ≡ false → is_declaration c ≡ false → inner_depth c ≡ 0 → command_counts c ≡ record { statements = 1; loops = 0; variables = 0 }
+-- a statement without blocks that is no loop, and that declares so many variables
+single_kept : (v : ℕ) (at : Standing) (c : Command) → command_statements c ≡ c ∷ [] → is_loop c ≡ false → length (filter is_declaration (c ∷ [])) ≡ v → inner_depth c ≡ 0
+    → command_counts c ≡ record { statements = 1; loops = 0; variables = v } → (at.before.variables ≤ 32 → at.before.variables + v ≤ 32)
     → KeepsStatement c → AllShallow (depths c) → KeptCommand at c
-flat at c alone no_loop no_declaration deep counts keeps shallow = record {
+single_kept v at c alone no_loop declares deep counts few keeps shallow = record {
   grammar = subst (All KeepsStatement) (sym alone) (All-cons KeepsStatement c [] keeps (All-nil KeepsStatement));
   shallow = subst (λ l. AllShallow (flat_map depths l)) (sym alone) (shallow_both (depths c) [] shallow shallow_none);
   statements = λ h. let n : length (command_statements c) ≡ 1 = ap (λ (l : List Command). length l) alone in omega (arith, h, n);
   loops = λ h. omega (arith, h, loops);
-  variables = λ h. omega (arith, h, variables);
+  variables = λ h. let room : at.before.variables + v ≤ 32 = few h in omega (arith, room, variables);
   depth = λ h. omega (arith, h, deep);
   single = λ h. loops;
   counts_statements = ap (λ n. n.statements) counts ∙ sym (ap (λ (l : List Command). length l) alone);
@@ -136,8 +141,20 @@ flat at c alone no_loop no_declaration deep counts keeps shallow = record {
     loops : length (filter is_loop (command_statements c)) ≡ 0
     loops = ap (λ (l : List Command). length (filter is_loop l)) alone ∙ none is_loop no_loop
 
-    variables : length (filter is_declaration (command_statements c)) ≡ 0
-    variables = ap (λ (l : List Command). length (filter is_declaration l)) alone ∙ none is_declaration no_declaration
+    variables : length (filter is_declaration (command_statements c)) ≡ v
+    variables = ap (λ (l : List Command). length (filter is_declaration l)) alone ∙ declares
+
+-- one that declares none
+flat : (at : Standing) (c : Command) → command_statements c ≡ c ∷ [] → is_loop c ≡ false → is_declaration c ≡ false → inner_depth c ≡ 0 → command_counts c ≡ record { statements = 1; loops = 0; variables = 0 }
+    → KeepsStatement c → AllShallow (depths c) → KeptCommand at c
+flat at c alone no_loop no_declaration deep counts keeps shallow =
+    single_kept 0 at c alone no_loop (rw no_declaration refl) deep counts (λ h. omega (arith, h)) keeps shallow
+
+-- one that declares a variable
+declare_kept : (at : Standing) (c : Command) → command_statements c ≡ c ∷ [] → is_loop c ≡ false → is_declaration c ≡ true → inner_depth c ≡ 0 → command_counts c ≡ record { statements = 1; loops = 0; variables = 1 }
+    → KeepsStatement c → suc at.before.variables ≤ 32 → AllShallow (depths c) → KeptCommand at c
+declare_kept at c alone no_loop declares deep counts keeps few shallow =
+    single_kept 1 at c alone no_loop (rw declares refl) deep counts (λ h. omega (arith, few)) keeps shallow
 
 finish_kept : (at : Standing) → KeptBlock at Finish
 finish_kept at = record {
@@ -151,21 +168,6 @@ finish_kept at = record {
   counts_statements = refl;
   counts_loops = refl;
   counts_variables = refl;
-}
-
-declare_kept : (at : Standing) (x : Ident) (e : Term) → suc at.before.variables ≤ 32 → term_depth e ≤ 16 → KeptCommand at (Declare x e)
-declare_kept at x e few deep = record {
-  grammar = All-cons KeepsStatement (Declare x e) [] tt (All-nil KeepsStatement);
-  shallow = shallow_more (term_depth e) [] deep shallow_none;
-  statements = λ h. omega (arith, h);
-  loops = λ h. omega (arith, h);
-  variables = λ h. omega (arith, few);
-  depth = λ h. omega (arith, h);
-  single = λ h. refl;
-  counts_statements = refl;
-  counts_loops = refl;
-  counts_variables = refl;
-  some = omega arith;
 }
 
 choose_kept : (at : Standing) (t : Test) (ys ns : Block) → test_depth t ≤ 16 → suc at.depth ≤ 8 → KeptBlock (deeper at) ys → KeptBlock (deeper (behind at ys)) ns → KeptCommand at (Choose t ys ns)
@@ -295,6 +297,7 @@ command_some at (Choose t ys ns) tokens rest is = one_some _ tokens is.middle is
 command_some at (ForRows r t c body) tokens rest is = looping_some at tokens is.middle is.first (one_some _ is.middle is.second.middle is.second.first)
 command_some at (ForEach x l body) tokens rest is = looping_some at tokens is.middle is.first (one_some _ is.middle is.second.middle is.second.first)
 command_some at (Insert t vs) tokens rest is = one_some _ tokens is.middle is.first
+command_some at (Fresh x t vs) tokens rest is = one_some _ tokens is.middle is.first
 command_some at (Update t k ss) tokens rest is = one_some _ tokens is.middle is.first
 command_some at (Remove t k) tokens rest is = one_some _ tokens is.middle is.first
 command_some at (Abort n) tokens rest is = one_some _ tokens is.middle is.first
@@ -304,8 +307,9 @@ mutual
   command_kept : (at : Standing) (c : Command) (tokens rest : List Token) → command 0 at c tokens rest → KeptCommand at c
   command_kept at (Declare x e) tokens rest is =
       let part = is.second.second in
-      declare_kept at x e (limit_kept 32 (suc at.before.variables) is.middle is.second.middle is.second.first (one_some _ is.second.middle part.first.middle part.first.first))
-      (expr_kept e part.first.second.middle part.middle part.first.second.second)
+      declare_kept at (Declare x e) refl refl refl refl refl tt
+      (limit_kept 32 (suc at.before.variables) is.middle is.second.middle is.second.first (one_some _ is.second.middle part.first.middle part.first.first))
+      (shallow_more (term_depth e) [] (expr_kept e part.first.second.middle part.middle part.first.second.second) shallow_none)
   command_kept at (Assign x e) tokens rest is =
       flat at (Assign x e) refl refl refl refl refl tt (shallow_more (term_depth e) [] (expr_kept e is.first.second.middle is.middle is.first.second.second) shallow_none)
   command_kept at (Fetch r t k) tokens rest is =
@@ -333,6 +337,12 @@ mutual
   command_kept at (Insert t vs) tokens rest is =
       let part = is.second.second.second in
       flat at (Insert t vs) refl refl refl refl refl (values_some vs is.second.second.middle part.middle part.first) (values_shallow vs is.second.second.middle part.middle part.first)
+  command_kept at (Fresh x t vs) tokens rest is =
+      let part = is.second.second in
+      let list = part.second.second.second.second in
+      declare_kept at (Fresh x t vs) refl refl refl refl refl tt
+      (limit_kept 32 (suc at.before.variables) is.middle is.second.middle is.second.first (one_some _ is.second.middle part.middle part.first))
+      (listed_shallow vs part.second.second.second.middle list.middle list.first)
   command_kept at (Update t k ss) tokens rest is =
       let keyed = is.second.second in
       let sets = keyed.second.second in

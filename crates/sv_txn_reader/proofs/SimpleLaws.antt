@@ -1,5 +1,5 @@
 -- Statements without blocks.
-use Rattle.std.proofs.Common.{◌≡◌, ◌∙◌, ℕ, suc, ◌≤◌, inl, inr, Bool, true, false, ◌&&◌, ◌||◌, if◌then◌else◌, nat_le, nat_lt, pos, List, [], ◌∷◌, length, Option, Some, None, Ok, refl, sym, ap, subst, codes, arith}
+use Rattle.std.proofs.Common.{◌≡◌, ◌∙◌, ℕ, suc, ◌≤◌, inl, inr, Bool, true, false, not, ◌&&◌, ◌||◌, if◌then◌else◌, nat_le, nat_lt, pos, List, [], ◌∷◌, length, Option, Some, None, Ok, refl, sym, ap, subst, codes, arith}
 use Rattle.std.proofs.Math.IntN.{negsuc}
 use Rattle.std.proofs.lemmas.Bool.Decides.{nat_tests}
 use Rattle.sv_lex.specs.declared.marks.Mark.TheVariants as marks
@@ -8,22 +8,23 @@ use Rattle.sv_lex.specs.declared.tokens.TokenKind.{TokenKind}
 use Rattle.sv_lex.specs.declared.tokens.TokenKind.TheVariants.{Name, Number, Text, Mark}
 use Rattle.sv_app.specs.declared.apps.Ident.{Ident}
 use Rattle.sv_app.specs.declared.refusals.Code.TheVariants.{Syntax, Many}
-use Rattle.sv_app.specs.Trees.{Term, Command, Declare, Assign, Fetch, Insert, Update, Remove, Abort, Reply}
-use Rattle.sv_reader.specs.Reading.{Read, ◌>>=◌, refuse, is_kind, is_some, name_of, is_name, kind_at, found_at, token_at}
+use Rattle.sv_app.specs.Trees.{Term, Command, Declare, Assign, Fetch, Insert, Fresh, Update, Remove, Abort, Reply}
+use Rattle.sv_reader.specs.Reading.{Read, ◌>>=◌, refuse, is_kind, is_next, is_some, name_of, is_name, name_at, kind_at, found_at, token_at}
 use Rattle.sv_reader.proofs.KindLaws.{token_of}
 use Rattle.sv_txn_reader.specs.declared.counts.Counts.{Counts}
-use Rattle.sv_txn_reader.specs.Grammar.{◌·◌, kind, mark, word, name, limit, Within, expr, separated, index, setting, code}
-use Rattle.sv_txn_reader.specs.Reading.{Counted, natural, natural_of, passes, is_large, let_at, assign_at, get_at, insert_at, update_at, remove_at, abort_at, reply_at, setting_at, expr_at}
+use Rattle.sv_txn_reader.specs.Grammar.{◌·◌, nothing, kind, mark, word, name, limit, Within, expr, separated, listed, index, setting, code}
+use Rattle.sv_txn_reader.specs.Reading.{Counted, natural, natural_of, passes, is_large, variable_at, let_at, assign_at, get_at, insert_at, fresh_at, update_at, remove_at, abort_at, reply_at, setting_at, listed_at, list_of, value_at, expr_at}
 use Rattle.sv_txn_reader.specs.Standing.{counts, plus}
 use Rattle.sv_txn_reader.proofs.ExprLaws.{expr_law}
 use Rattle.sv_txn_reader.proofs.FactorLaws.{adds}
 use Rattle.sv_txn_reader.proofs.HeadLaws.{name_misplaced, name_read}
-use Rattle.sv_reader.proofs.AnswerLaws.{anything}
-use Rattle.sv_txn_reader.proofs.PlacedLaws.{Passes, Law, map_law, read_law}
-use Rattle.sv_txn_reader.proofs.LimitLaws.{places, many_law, Limited, limited_law, Goes, Short}
-use Rattle.sv_txn_reader.proofs.ListLaws.{joins, index_law, setting_law, values_law, sets_law}
+use Rattle.sv_txn_reader.proofs.LiteralLaws.{term_first}
+use Rattle.sv_reader.proofs.AnswerLaws.{anything, then_ok, then_err}
+use Rattle.sv_txn_reader.proofs.PlacedLaws.{Passes, Law, map_law, read_law, clash_law}
+use Rattle.sv_txn_reader.proofs.LimitLaws.{places, many_law, Limited, limited_law, Short}
+use Rattle.sv_txn_reader.proofs.ListLaws.{joins, or_false, index_law, setting_law, values_law, sets_law}
 use Rattle.sv_reader.proofs.AnswerLaws.{next_alike}
-use Rattle.sv_txn_reader.proofs.PieceLaws.{Means, leaf_law, name_law, name_next, Made, take, skip, skip_last, Either, Left, Right}
+use Rattle.sv_txn_reader.proofs.PieceLaws.{Means, leaf_law, name_law, name_next, Made, take, skip, skip_last, ended, Either, Left, Right, either_law}
 
 abbrev joins_kind : TokenKind → Bool
 joins_kind k = ((is_kind (Mark marks.Dot) k || is_kind (Mark marks.Star) k) || (is_kind (Mark marks.Plus) k || is_kind (Mark marks.Minus) k)) || is_kind (Mark marks.Comma) k
@@ -53,41 +54,125 @@ SetWords i x = setting i x.0 · mark marks.Semi
 set_first : (i : ℕ) (x : Settled) (l r : List Token) → SetWords i x l r → is_name l ≡ true
 set_first i x l r is = name_next x.0.0 l is.first.middle is.first.first
 
+-- a variable whose name comes next is counted
+variable_law : {T : Type 0} {clash : List Token → Bool} {R : ℕ → T → List Token → List Token → Type 0} (n : Counts) (f : T → Counted) (read : Counts → List Token → Read Counted)
+    → Law places clash (Made f R) (read (plus n (counts 0 0 1)))
+    → ((i : ℕ) (x : T) (l r : List Token) → R i x l r → is_name l ≡ true)
+    → ((l : List Token) → is_name l ≡ false → read (plus n (counts 0 0 1)) l ≡ refuse Syntax l)
+    → ((token : Token) (others : List Token) → is_name (token ∷ others) ≡ true → read (plus n (counts 0 0 1)) (token ∷ []) ≡ refuse Syntax [])
+    → Law places clash (Made f (λ i x. limit i 32 (suc n.variables) · R i x)) (λ l. variable_at n l >>= read)
+unfolding variable_at
+variable_law {T} {clash} {R} n f read law first misplaced short = limited_made 32 n.variables f
+    (read_law same (limited_law is_name 32 n.variables (next_alike (λ token. is_some (name_of token))) refl law
+    (λ i a l r m. first i m.«from» l r m.is) misplaced (λ token others t. Short (short token others t))))
+  where
+    asked : Bool → Bool → List Token → Read Counted
+    asked b c l = if b && c then refuse Many l else read (plus n (counts 0 0 1)) l
+
+    counted : Bool → Bool → List Token → Read Counts
+    counted b c l = if b then (if c then refuse Many l else Ok (plus n (counts 0 0 1), l)) else refuse Syntax l
+
+    same : (l : List Token) → (counted (is_name l) (nat_le 32 n.variables) l >>= read) ≡ asked (is_name l) (nat_le 32 n.variables) l
+    same l = by_tests (is_name l) (nat_le 32 n.variables) refl
+      where
+        by_tests : (b c : Bool) → is_name l ≡ b → (counted b c l >>= read) ≡ asked b c l
+        by_tests true true t = refl
+        by_tests true false t = refl
+        by_tests false c t = sym (misplaced l t)
+
 -- let
 
 abbrev pub let_of : Counts → Settled → Counted
 let_of n x = (Declare x.0.0 x.0.1, plus n (counts 0 0 1))
 
 let_rest : Counts → List Token → Read Counted
-let_rest n l = setting_at l >>= λ s r2. kind_at (Mark marks.Semi) r2 >>= λ _ r3. Ok ((Declare s.0 s.1, plus n (counts 0 0 1)), r3)
+let_rest m l = setting_at l >>= λ s r2. kind_at (Mark marks.Semi) r2 >>= λ _ r3. Ok ((Declare s.0 s.1, m), r3)
 
 pub let_law : (clash : List Token → Bool) (n : Counts) → Law places clash (Made (let_of n) (λ i x. word (codes "let") · limit i 32 (suc n.variables) · SetWords i x)) (let_at n)
 unfolding let_at let_rest setting_at
-let_law clash n = skip (Name (codes "let")) (let_of n) (limited_made 32 n.variables (let_of n)
-    (read_law same (limited_law is_name 32 n.variables (next_alike (λ token. is_some (name_of token))) refl rest_law (λ i a l r m. set_first i m.«from» l r m.is) misplaced begins)))
+let_law clash n = skip (Name (codes "let")) (let_of n) (variable_law n (let_of n) let_rest rest_law set_first
+    (λ l e. ap settled (name_misplaced l e)) (λ token others t. ap settled (name_read token [] t).1))
   where
-    rest_law : Law places clash (Made (let_of n) SetWords) (let_rest n)
+    rest_law : Law places clash (Made (let_of n) SetWords) (let_rest (plus n (counts 0 0 1)))
     rest_law = take (λ (s : Ident × Term) (_ : Unit {0}). let_of n (s, tt)) setting_law (λ s. skip_last places clash (Mark marks.Semi) (let_of n (s, tt))) (λ i a t l r is clear. semi_adds l r is)
 
-    misplaced : (l : List Token) → is_name l ≡ false → let_rest n l ≡ refuse Syntax l
-    misplaced l e = ap (λ (x : Read Ident). (x >>= λ x r1. kind_at (Mark marks.Eq) r1 >>= λ _ r2. expr_at r2 >>= λ e r3. Ok ((x, e), r3)) >>= λ s r2. kind_at (Mark marks.Semi) r2 >>= λ _ r3. Ok (let_of n (s, tt), r3)) (name_misplaced l e)
+    settled : Read Ident → Read Counted
+    settled x = (x >>= λ x r1. kind_at (Mark marks.Eq) r1 >>= λ _ r2. expr_at r2 >>= λ e r3. Ok ((x, e), r3)) >>= λ s r2. kind_at (Mark marks.Semi) r2 >>= λ _ r3. Ok (let_of n (s, tt), r3)
 
-    asked : Bool → Bool → List Token → Read Counted
-    asked b c l = if b && c then refuse Many l else let_rest n l
+-- values, or none
 
-    direct : Bool → Bool → List Token → Read Counted
-    direct b c l = if b then (if c then refuse Many l else let_rest n l) else refuse Syntax l
+abbrev closes : List Token → Bool
+closes l = joins l || not (is_next (Mark marks.RightParen) l)
 
-    same : (l : List Token) → direct (is_name l) (nat_le 32 n.variables) l ≡ asked (is_name l) (nat_le 32 n.variables) l
-    same l = by_tests (is_name l) (nat_le 32 n.variables) refl
+paren_closes : (l r : List Token) → mark marks.RightParen l r → closes l ≡ false
+paren_closes l r is = ap closes is.next ∙ ap (λ k. joins_kind k || not (is_kind (Mark marks.RightParen) k)) is.holds
+
+no_paren : (i : ℕ) (e : Term) (l r : List Token) → expr i e l r → not (is_next (Mark marks.RightParen) l) ≡ true
+no_paren i e l r is = ap not (term_first (is_kind (Mark marks.RightParen)) (λ n. refl) (λ t. refl) (λ w free. refl) refl refl refl is.is)
+
+values_first : (i : ℕ) (vs : List Term) (l r : List Token) → separated (expr i) vs l r → not (is_next (Mark marks.RightParen) l) ≡ true
+values_first i [] l r is = absurd is
+values_first i (e ∷ vs) l r is = no_paren i e l is.middle is.first
+
+listed_law : Law places closes (λ i. listed (expr i)) listed_at
+unfolding listed_at
+listed_law = map_law (read_law same (either_law (λ l. not (is_next (Mark marks.RightParen) l)) (λ a b alike. ap not (next_alike (λ token. is_kind (Mark marks.RightParen) token.kind) a b alike))
+    (clash_law (λ l clear. (or_false (joins l) (not (is_next (Mark marks.RightParen) l)) clear).0) values_law)
+    (ended places closes []) values_first
+    (λ i vs l r m clear. subst (λ y. not (is_next (Mark marks.RightParen) y) ≡ false) (sym m.is) (or_false (joins r) (not (is_next (Mark marks.RightParen) r)) clear).1)))
+    into out
+  where
+    by_test : (b : Bool) (l : List Token) → Read (List Term)
+    by_test b l = if b then Ok ([], l) else list_of value_at l
+
+    same : (l : List Token) → by_test (is_next (Mark marks.RightParen) l) l ≡ (if not (is_next (Mark marks.RightParen) l) then list_of value_at l else Ok ([], l))
+    same l = by_bool (is_next (Mark marks.RightParen) l)
       where
-        by_tests : (b c : Bool) → is_name l ≡ b → direct b c l ≡ asked b c l
-        by_tests true true t = refl
-        by_tests true false t = refl
-        by_tests false c t = sym (misplaced l t)
+        by_bool : (b : Bool) → by_test b l ≡ (if not b then list_of value_at l else Ok ([], l))
+        by_bool true = refl
+        by_bool false = refl
 
-    begins : (token : Token) (others : List Token) → is_name (token ∷ others) ≡ true → Goes token (let_rest n (token ∷ []))
-    begins token others t = Short (ap (λ (x : Read Ident). (x >>= λ x r1. kind_at (Mark marks.Eq) r1 >>= λ _ r2. expr_at r2 >>= λ e r3. Ok ((x, e), r3)) >>= λ s r2. kind_at (Mark marks.Semi) r2 >>= λ _ r3. Ok (let_of n (s, tt), r3)) (name_read token [] t).1)
+    some_listed : (i : ℕ) (vs : List Term) (l r : List Token) → separated (expr i) vs l r → listed (expr i) vs l r
+    some_listed i [] l r is = absurd is
+    some_listed i (e ∷ vs) l r is = is
+
+    into : (i : ℕ) (vs : List Term) (l r : List Token) → Either (λ i. separated (expr i)) (Made (λ (_ : Unit {0}). []) (λ _ _. nothing)) i vs l r → listed (expr i) vs l r
+    into i vs l r (Left is) = some_listed i vs l r is
+    into i vs l r (Right m) = subst (λ y. listed (expr i) y l r) (sym m.made) m.is
+
+    out : (i : ℕ) (vs : List Term) (l r : List Token) → listed (expr i) vs l r → Either (λ i. separated (expr i)) (Made (λ (_ : Unit {0}). []) (λ _ _. nothing)) i vs l r
+    out i [] l r is = Right (record { «from» = tt; is = is; made = refl })
+    out i (e ∷ vs) l r is = Left is
+
+-- fresh
+
+abbrev pub Drawn : Type 0
+Drawn = Ident × (Ident × (List Term × Unit {0}))
+
+abbrev pub fresh_of : Counts → Drawn → Counted
+fresh_of n x = (Fresh x.0 x.1.0 x.1.1.0, plus n (counts 0 0 1))
+
+abbrev pub FreshWords : ℕ → Drawn → List Token → List Token → Type 0
+FreshWords i x = name x.0 · mark marks.Eq · name x.1.0 · mark marks.LeftParen · listed (expr i) x.1.1.0 · mark marks.RightParen · mark marks.Semi
+
+drawn : Counts → Ident → List Token → Read Counted
+drawn m x r3 =
+    kind_at (Mark marks.Eq) r3 >>= λ _ r4. name_at r4 >>= λ t r5. kind_at (Mark marks.LeftParen) r5 >>= λ _ r6. listed_at r6 >>= λ vs r7.
+    kind_at (Mark marks.RightParen) r7 >>= λ _ r8. kind_at (Mark marks.Semi) r8 >>= λ _ r9. Ok ((Fresh x t vs, m), r9)
+
+pub fresh_law : (clash : List Token → Bool) (n : Counts) → Law places clash (Made (fresh_of n) (λ i x. word (codes "fresh") · limit i 32 (suc n.variables) · FreshWords i x)) (fresh_at n)
+unfolding fresh_at drawn
+fresh_law clash n = skip (Name (codes "fresh")) (fresh_of n) (variable_law n (fresh_of n) (λ m l. name_at l >>= drawn m) rest_law
+    (λ i x l r is. name_next x.0 l is.middle is.first)
+    (λ l e. then_err (drawn (plus n (counts 0 0 1))) (name_misplaced l e))
+    (λ token others t. then_ok (drawn (plus n (counts 0 0 1))) (name_read token [] t).1))
+  where
+    rest_law : Law places clash (Made (fresh_of n) FreshWords) (λ l. name_at l >>= drawn (plus n (counts 0 0 1)))
+    rest_law = take {before = anything} (λ (a : Ident) (x : Ident × (List Term × Unit {0})). fresh_of n (a, x)) (name_law places anything)
+        (λ a. skip (Mark marks.Eq) (λ (x : Ident × (List Term × Unit {0})). fresh_of n (a, x)) (take {before = anything} (λ (t : Ident) (x : List Term × Unit {0}). fresh_of n (a, (t, x))) (name_law places anything)
+        (λ t. skip (Mark marks.LeftParen) (λ (x : List Term × Unit {0}). fresh_of n (a, (t, x))) (take (λ (vs : List Term) (_ : Unit {0}). fresh_of n (a, (t, (vs, tt)))) listed_law
+        (λ vs. skip (Mark marks.RightParen) (λ (_ : Unit {0}). fresh_of n (a, (t, (vs, tt)))) (skip_last places clash (Mark marks.Semi) (fresh_of n (a, (t, (vs, tt))))))
+        (λ i vs x l r is clear. paren_closes l is.middle is.first))) (λ i t x l r is clear. refl))) (λ i a x l r is clear. refl)
 
 -- the others
 

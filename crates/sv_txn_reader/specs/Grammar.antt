@@ -13,7 +13,7 @@ use Rattle.sv_app.specs.declared.schemas.Ty.TheVariants as types
 use Rattle.sv_app.specs.declared.txns.Rel.{Rel}
 use Rattle.sv_app.specs.declared.txns.Rel.TheVariants as rels
 use Rattle.sv_app.specs.TermTypes.{spot_of}
-use Rattle.sv_app.specs.Trees.{Term, Number, Words, Variable, Field, Old, Minus, Sum, Difference, Product, Test, Compare, Negation, Both, Either, Command, Declare, Assign, Fetch, Choose, ForRows, ForEach, Insert, Update, Remove, Abort, Reply, Block, Finish, Then, Transaction}
+use Rattle.sv_app.specs.Trees.{Term, Number, Words, Variable, Field, Old, Minus, Sum, Difference, Product, Test, Compare, Negation, Both, Either, Command, Declare, Assign, Fetch, Choose, ForRows, ForEach, Insert, Fresh, Update, Remove, Abort, Reply, Block, Finish, Then, Transaction}
 use Rattle.sv_txn_reader.specs.Standing.{Standing, outside, one_statement, deeper, in_loop, behind, past_command}
 use Rattle.sv_reader.specs.Grammar.{IsName}
 
@@ -68,6 +68,11 @@ others x (a ∷ more) = mark marks.Comma · x a · others x more
 abbrev pub separated : {A : Type 0} → (A → List Token → List Token → Type 0) → List A → List Token → List Token → Type 0
 separated x [] = λ _ _. ⊥
 separated x (a ∷ more) = x a · others x more
+
+-- [x {"," x}]
+abbrev pub listed : {A : Type 0} → (A → List Token → List Token → Type 0) → List A → List Token → List Token → Type 0
+listed x [] = nothing
+listed x (a ∷ more) = x a · others x more
 
 -- the expression, which begins at this place
 abbrev pub placed : Spot → Term → Term
@@ -200,6 +205,9 @@ abbrev mutual
       looping free at · word (codes "for") · name r · word (codes "in") · name t · where_part free c · braced free at (statements free (in_loop at) body)
   command free at (ForEach x l body) = looping free at · word (codes "each") · name x · word (codes "in") · name l · braced free at (statements free (in_loop at) body)
   command free at (Insert t vs) = word (codes "insert") · name t · mark marks.LeftParen · separated (expr free) vs · mark marks.RightParen · mark marks.Semi
+  command free at (Fresh x t vs) =
+      word (codes "fresh") · limit free 32 (suc at.before.variables) · name x · mark marks.Eq · name t
+      · mark marks.LeftParen · listed (expr free) vs · mark marks.RightParen · mark marks.Semi
   command free at (Update t k sets) =
       word (codes "update") · name t · index free k · word (codes "set") · separated (setting free) sets · mark marks.Semi
   command free at (Remove t k) = word (codes "remove") · name t · index free k · mark marks.Semi

@@ -238,6 +238,10 @@ value_at values tokens = expr_at tokens
 unfoldable pub set_at : List (Ident × Term) → List Token → Read (Ident × Term)
 set_at sets tokens = setting_at tokens
 
+-- values between commas, or none before a parenthesis
+unfoldable pub listed_at : List Token → Read (List Term)
+listed_at tokens = if is_next (Mark marks.RightParen) tokens then Ok ([], tokens) else list_of value_at tokens
+
 -- statements
 
 abbrev pub head_named : List ℕ → Option Head
@@ -245,6 +249,7 @@ head_named word =
     if bytes_eq word (codes "let") then Some heads.Let else if bytes_eq word (codes "get") then Some heads.Get
     else if bytes_eq word (codes "if") then Some heads.If else if bytes_eq word (codes "for") then Some heads.For
     else if bytes_eq word (codes "each") then Some heads.Each else if bytes_eq word (codes "insert") then Some heads.Insert
+    else if bytes_eq word (codes "fresh") then Some heads.Fresh
     else if bytes_eq word (codes "update") then Some heads.Update else if bytes_eq word (codes "remove") then Some heads.Remove
     else if bytes_eq word (codes "abort") then Some heads.Abort else if bytes_eq word (codes "reply") then Some heads.Reply
     else given (not (is_reserved word)) heads.Assign
@@ -276,10 +281,16 @@ Several = List Command × Counts
 abbrev pub Blocks : Type 0
 Blocks = Bool → Counts → List Token → Read Several
 
+-- one variable more, if there is room for it where its name comes next
+unfoldable pub variable_at : Counts → List Token → Read Counts
+variable_at n tokens =
+    if is_name tokens then (if nat_le 32 n.variables then refuse Many tokens else Ok (plus n (counts 0 0 1), tokens))
+    else refuse Syntax tokens
+
 unfoldable pub let_at : Counts → List Token → Read Counted
 let_at n tokens =
-    kind_at (Name (codes "let")) tokens >>= λ _ r1. if is_name r1 then (if nat_le 32 n.variables then refuse Many r1
-    else (setting_at r1 >>= λ s r2. kind_at (Mark marks.Semi) r2 >>= λ _ r3. Ok ((trees.Declare s.0 s.1, plus n (counts 0 0 1)), r3))) else refuse Syntax r1
+    kind_at (Name (codes "let")) tokens >>= λ _ r1. variable_at n r1 >>= λ m r2. setting_at r2 >>= λ s r3.
+    kind_at (Mark marks.Semi) r3 >>= λ _ r4. Ok ((trees.Declare s.0 s.1, m), r4)
 
 unfoldable pub assign_at : List Token → Read Command
 assign_at tokens = setting_at tokens >>= λ s r1. kind_at (Mark marks.Semi) r1 >>= λ _ r2. Ok (trees.Assign s.0 s.1, r2)
@@ -293,6 +304,13 @@ unfoldable pub insert_at : List Token → Read Command
 insert_at tokens =
     kind_at (Name (codes "insert")) tokens >>= λ _ r1. name_at r1 >>= λ table r2. kind_at (Mark marks.LeftParen) r2 >>= λ _ r3. list_of value_at r3 >>= λ values r4.
     kind_at (Mark marks.RightParen) r4 >>= λ _ r5. kind_at (Mark marks.Semi) r5 >>= λ _ r6. Ok (trees.Insert table values, r6)
+
+unfoldable pub fresh_at : Counts → List Token → Read Counted
+fresh_at n tokens =
+    kind_at (Name (codes "fresh")) tokens >>= λ _ r1. variable_at n r1 >>= λ m r2. name_at r2 >>= λ var r3.
+    kind_at (Mark marks.Eq) r3 >>= λ _ r4. name_at r4 >>= λ table r5. kind_at (Mark marks.LeftParen) r5 >>= λ _ r6.
+    listed_at r6 >>= λ values r7. kind_at (Mark marks.RightParen) r7 >>= λ _ r8. kind_at (Mark marks.Semi) r8 >>= λ _ r9.
+    Ok ((trees.Fresh var table values, m), r9)
 
 unfoldable pub update_at : List Token → Read Command
 update_at tokens =
@@ -369,6 +387,7 @@ with_head blocks looped n (Some heads.If) tokens = if_at blocks looped n tokens
 with_head blocks looped n (Some heads.For) tokens = loop_at (for_at blocks) n tokens
 with_head blocks looped n (Some heads.Each) tokens = loop_at (each_at blocks) n tokens
 with_head blocks looped n (Some heads.Insert) tokens = with_counts n (insert_at tokens)
+with_head blocks looped n (Some heads.Fresh) tokens = fresh_at n tokens
 with_head blocks looped n (Some heads.Update) tokens = with_counts n (update_at tokens)
 with_head blocks looped n (Some heads.Remove) tokens = with_counts n (remove_at tokens)
 with_head blocks looped n (Some heads.Abort) tokens = with_counts n (abort_at tokens)

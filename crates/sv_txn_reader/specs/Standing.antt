@@ -1,6 +1,6 @@
 -- Where a statement stands in its transaction: how deep, whether in a loop, and how many statements, loops and variables begin before it.
 use Rattle.std.specs.Prelude.{ℕ, suc, ◌+◌, Bool, true, false}
-use Rattle.sv_app.specs.Trees.{Command, Declare, Assign, Fetch, Choose, ForRows, ForEach, Insert, Update, Remove, Abort, Reply, Block, Finish, Then}
+use Rattle.sv_app.specs.Trees.{Command, Declare, Assign, Fetch, Choose, ForRows, ForEach, Insert, Fresh, Update, Remove, Abort, Reply, Block, Finish, Then}
 use Rattle.sv_txn_reader.specs.declared.counts.Counts.{Counts}
 
 pub record Standing : Type 0 where
@@ -24,6 +24,7 @@ abbrev mutual
   command_counts (ForRows r t c body) = plus (counts 1 1 0) (block_counts body)
   command_counts (ForEach x l body) = plus (counts 1 1 0) (block_counts body)
   command_counts (Insert t vs) = counts 1 0 0
+  command_counts (Fresh x t vs) = counts 1 0 1
   command_counts (Update t k sets) = counts 1 0 0
   command_counts (Remove t k) = counts 1 0 0
   command_counts (Abort n) = counts 1 0 0

@@ -22,6 +22,8 @@ fn head_named(word: &[u8]) -> Option<Head>
         Some(Head::Each)
     } else if word == b"insert".as_slice() {
         Some(Head::Insert)
+    } else if word == b"fresh".as_slice() {
+        Some(Head::Fresh)
     } else if word == b"update".as_slice() {
         Some(Head::Update)
     } else if word == b"remove".as_slice() {

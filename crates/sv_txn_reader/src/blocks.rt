@@ -9,7 +9,7 @@ use crate::conditions::cond;
 use crate::counts::Counts;
 use crate::heads::Head;
 use crate::statements::{
-    abort, assign, get, insert, let_statement, remove, reply, update, where_part,
+    abort, assign, fresh, get, insert, let_statement, remove, reply, update, where_part,
 };
 use std::alloc::Global;
 use sv_app::limits::{MOST_LOOPS, MOST_STATEMENTS};
@@ -167,6 +167,7 @@ fn statement(
         Some(Head::For) => counted_for(alloc, reader, counts, room),
         Some(Head::Each) => counted_each(alloc, reader, counts, room),
         Some(Head::Insert) => insert(alloc, reader),
+        Some(Head::Fresh) => fresh(alloc, reader, counts),
         Some(Head::Update) => update(alloc, reader),
         Some(Head::Remove) => remove(alloc, reader),
         Some(Head::Abort) => abort(reader),

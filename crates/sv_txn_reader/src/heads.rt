@@ -8,6 +8,7 @@ pub enum Head {
     For,
     Each,
     Insert,
+    Fresh,
     Update,
     Remove,
     Abort,

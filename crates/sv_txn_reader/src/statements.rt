@@ -1,18 +1,33 @@
 ghost use Rattle.std.specs.Prelude.{◌≡◌, [], false};
 ghost use Rattle.sv_app.specs.Trees.{command_of, test_of, block_of};
 ghost use Rattle.sv_reader.specs.Reading.{Reads, token_at};
-ghost use Rattle.sv_txn_reader.specs.Reading.{natural_of, is_large, let_at, assign_at, get_at, insert_at, update_at, remove_at, abort_at, reply_at, where_at};
+ghost use Rattle.sv_txn_reader.specs.Reading.{natural_of, is_large, variable_at, let_at, assign_at, get_at, insert_at, fresh_at, update_at, remove_at, abort_at, reply_at, where_at};
 ghost use Rattle.std.specs.Option.{option_map};
 
 use crate::conditions::cond;
 use crate::counts::Counts;
 use crate::terms::expr;
-use crate::values::{index, sets, setting, values};
+use crate::values::{index, listed, sets, setting, values};
 use std::alloc::Global;
 use sv_app::limits::{MOST_CODE, MOST_VARIABLES};
 use sv_app::{Cond, Stmt};
 use sv_lex::{Mark, Token, TokenKind};
 use sv_reader::{ReadStop, Reader};
+
+/// Counts one variable more, if there is room for it where its name comes next.
+#[tactic(auto, unfolding(crate::specs::Reading::variable_at))]
+fn variable(reader: &Reader<'_>, counts: &mut Counts) -> Result<(), ReadStop>
+    ensures { Reads (λ _. counts.new) result reader.now.rest.now (variable_at counts.old reader.now.rest.now) }
+{
+    if !reader.is_name() {
+        return Err(ReadStop::Faulty(reader.misplaced()));
+    }
+    if counts.variables >= MOST_VARIABLES {
+        return Err(ReadStop::Faulty(reader.too_many()));
+    }
+    counts.variables += 1;
+    Ok(())
+}
 
 /// Reads a declaration, if there is room for one more variable.
 #[tactic(auto, unfolding(crate::specs::Reading::let_at))]
@@ -24,15 +39,9 @@ pub fn let_statement(
     ensures { Reads (λ stmt. (command_of stmt, counts.new)) result reader.new.rest.now (let_at counts.old reader.old.rest.now) }
 {
     reader.word(b"let")?;
-    if !reader.is_name() {
-        return Err(ReadStop::Faulty(reader.misplaced()));
-    }
-    if counts.variables >= MOST_VARIABLES {
-        return Err(ReadStop::Faulty(reader.too_many()));
-    }
+    variable(reader, counts)?;
     let (var, value) = setting(alloc, reader)?;
     reader.mark(Mark::Semi)?;
-    counts.variables += 1;
     Ok(Stmt::Let { var, value })
 }
 
@@ -72,6 +81,23 @@ pub fn insert(alloc: Global, reader: &mut Reader<'_>) -> Result<Stmt, ReadStop>
     reader.mark(Mark::RightParen)?;
     reader.mark(Mark::Semi)?;
     Ok(Stmt::Insert { table, values })
+}
+
+/// Reads an insert under a key that is drawn, if there is room for one more variable.
+#[tactic(auto, unfolding(crate::specs::Reading::fresh_at))]
+pub fn fresh(alloc: Global, reader: &mut Reader<'_>, counts: &mut Counts) -> Result<Stmt, ReadStop>
+    ensures { Reads (λ stmt. (command_of stmt, counts.new)) result reader.new.rest.now (fresh_at counts.old reader.old.rest.now) }
+{
+    reader.word(b"fresh")?;
+    variable(reader, counts)?;
+    let var = reader.name()?;
+    reader.mark(Mark::Eq)?;
+    let table = reader.name()?;
+    reader.mark(Mark::LeftParen)?;
+    let values = listed(alloc, reader)?;
+    reader.mark(Mark::RightParen)?;
+    reader.mark(Mark::Semi)?;
+    Ok(Stmt::Fresh { var, table, values })
 }
 
 /// Reads an update.

@@ -1,7 +1,7 @@
 ghost use Rattle.std.specs.Prelude.{◌≡◌, []};
 ghost use Rattle.sv_app.specs.Trees.{term_of, terms_of, sets_of};
 ghost use Rattle.sv_reader.specs.Reading.{Reads, is_next, turns_at, keep};
-ghost use Rattle.sv_txn_reader.specs.Reading.{keys_at, index_at, setting_at, item_step, item_turn, list_of, value_at, set_at};
+ghost use Rattle.sv_txn_reader.specs.Reading.{keys_at, index_at, setting_at, item_step, item_turn, list_of, value_at, set_at, listed_at};
 
 use crate::terms::expr;
 use std::alloc::Global;
@@ -68,6 +68,17 @@ pub fn values(alloc: Global, reader: &mut Reader<'_>) -> Result<Vec<Expr>, ReadS
         more_values(alloc, reader, &mut values)?;
     }
     Ok(values)
+}
+
+/// Reads values between commas, or none before a parenthesis.
+#[tactic(auto, unfolding(crate::specs::Reading::listed_at))]
+pub fn listed(alloc: Global, reader: &mut Reader<'_>) -> Result<Vec<Expr>, ReadStop>
+    ensures { Reads (λ values. terms_of values.items) result reader.new.rest.now (listed_at reader.old.rest.now) }
+{
+    if reader.is_mark(Mark::RightParen) {
+        return Ok(Vec::new(alloc));
+    }
+    values(alloc, reader)
 }
 
 /// Reads a name and what it is set to.
