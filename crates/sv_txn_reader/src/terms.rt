@@ -9,30 +9,13 @@ ghost use Rattle.sv_txn_reader.specs.Reading.{literal_of, field_at, old_at, leaf
 use crate::graded::Graded;
 use std::alloc::{AllocError, Global};
 use sv_app::limits::MOST_DEPTH;
-use sv_app::{Expr, Ident};
+use sv_app::{Expr, Ident, spot_of};
 use sv_lex::{Mark, Token, TokenKind};
 use sv_reader::{ReadStop, Reader};
 use sv_value::Spot;
 
 /// How much deeper an expression may be than a name: at most 16 deep.
 const MOST_EXTRA: usize = MOST_DEPTH - 1;
-
-/// The place of an expression.
-fn spot_of(expr: &Expr) -> Spot
-    ensures { result ≡ spot_of (term_of expr.now) }
-{
-    match expr {
-        Expr::Int(_, spot)
-        | Expr::Text(_, spot)
-        | Expr::Var(_, spot)
-        | Expr::Field { spot, .. }
-        | Expr::Old(_, spot)
-        | Expr::Neg(_, spot)
-        | Expr::Add(_, _, spot)
-        | Expr::Sub(_, _, spot)
-        | Expr::Mul(_, _, spot) => *spot,
-    }
-}
 
 /// The expression, which begins at this place.
 fn placed(expr: Expr, spot: Spot) -> Expr
