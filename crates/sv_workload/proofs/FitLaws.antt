@@ -1,15 +1,19 @@
 -- Initial rows of which none is refused fit the schema, and no two stand at one place.
 use Rattle.std.proofs.Common.{◌≡◌, ◌∙◌, ℕ, zero, suc, ◌+◌, ◌<◌, ◌≤◌, nat_le, Bool, true, false, List, [], ◌∷◌, ◌++◌, length, map, Option, Some, None, slice_get, refl, sym, ap, subst, append_assoc, arith}
+use Rattle.std.specs.Prelude.{ℤ, ◌≤ℤ◌, ◌<ℤ◌, int_le}
 use Rattle.std.specs.List.{All, Contains}
 use Rattle.std.specs.Option.{unwrap_or}
 use Rattle.std.proofs.lemmas.Bool.Decides.{nat_tests}
+use Rattle.std.proofs.lemmas.Int.{ints}
 use Rattle.std.proofs.lemmas.List.{length-append}
 use Rattle.std.proofs.lemmas.List.Elements.{All-cons, All-nil, Contains-push, Contains-append_left}
 use Rattle.sv_value.specs.declared.values.Val.{Val}
 use Rattle.sv_lex.specs.declared.tokens.Token.{Token}
-use Rattle.sv_app.specs.declared.refusals.Code.TheVariants.{Unknown, Twice, Typing, Many}
+use Rattle.sv_app.specs.declared.refusals.Code.TheVariants.{Unknown, Twice, Typing, Many, Reserved}
 use Rattle.sv_app.specs.declared.schemas.Column.{Column}
 use Rattle.sv_app.specs.Accepted.{AcceptedSchema}
+use Rattle.sv_app.specs.Draws.{first_of_all}
+use Rattle.sv_app.specs.Fitting.{number_in}
 use Rattle.sv_app.specs.Lookups.{table_of}
 use Rattle.sv_app.specs.Schema.{Declaration}
 use Rattle.sv_app.specs.Slots.{item}
@@ -25,7 +29,7 @@ use Rattle.sv_workload.specs.declared.written.Row.{Row}
 use Rattle.sv_workload.specs.Elements.{Among, Here, Behind, AreNone}
 use Rattle.sv_workload.specs.Fits.{RowFits}
 use Rattle.sv_workload.specs.Grammar.{many, row}
-use Rattle.sv_workload.specs.InitRefused.{BeginsName, BeginsRow, IsRepeated, RowRefused, NoTable, Unfit, Repeated, TooMany}
+use Rattle.sv_workload.specs.InitRefused.{BeginsName, BeginsRow, IsRepeated, IsLeftToDraw, RowRefused, NoTable, Unfit, Repeated, LeftToDraw, TooMany}
 use Rattle.sv_workload.specs.Reading.{values_fit}
 use Rattle.sv_workload.specs.Rows.{key_of, table_number, init_row}
 use Rattle.sv_workload.proofs.InitLaws.{begins_row, row_opens}
@@ -38,9 +42,17 @@ value_at (c ∷ cs) [] n column is at = absurd is
 value_at (c ∷ cs) (v ∷ vs) zero column is at = let same : c ≡ column = cc in subst (λ x. HasType x.ty v) same is.0
 value_at (c ∷ cs) (v ∷ vs) (suc n) column is at = value_at cs vs n column is.1 at
 
+-- a key that isn't one of those that are drawn is smaller
+below_all : (n : ℤ) → (first_of_all ≤ℤ n → ⊥) → n <ℤ first_of_all
+below_all n none = by_test (int_le first_of_all n) refl
+  where
+    by_test : (b : Bool) → int_le first_of_all n ≡ b → n <ℤ first_of_all
+    by_test true e = absurd (none (omega (arith, ints, e)))
+    by_test false e = omega (arith, ints, e)
+
 module _ (schema : List Declaration) (accepted : AcceptedSchema schema) where
-  pub init_fits : (r : Row) (t : Declaration) → table_of schema r.table ≡ Some t → RowFits t r → InitFits schema (init_row schema r)
-  init_fits r t e fits =
+  pub init_fits : (r : Row) (t : Declaration) → table_of schema r.table ≡ Some t → RowFits t r → (IsLeftToDraw schema t r → ⊥) → InitFits schema (init_row schema r)
+  init_fits r t e fits kept =
       let p = placed (λ d. d.name) schema r.table t e in
       let number : p.place ≡ table_number schema r.table = ap (λ found. unwrap_or found 0) (sym p.named) in
       let at : slice_get schema (table_number schema r.table) ≡ Some t = subst (λ n. slice_get schema n ≡ Some t) number p.at in
@@ -50,6 +62,7 @@ module _ (schema : List Declaration) (accepted : AcceptedSchema schema) where
         key = subst (λ found. KeyFits t.columns t.key (key_values (key_of found r))) (sym e) (key_fits schema accepted (table_number schema r.table) t r.values at (λ c column declared. value_at t.columns r.values c column fits declared));
         values = fits;
         keyed = ap (λ found. key_of found r) e;
+        unreserved = λ fresh. below_all (number_in (init_row schema r).key.first) (λ large. kept (record { fresh = fresh; large = large }));
       }
 
 -- rows of which none is refused
@@ -59,6 +72,7 @@ pub record GoodRow (schema : List Declaration) (before : List Row) (r : Row) : T
   pub known : table_of schema r.table ≡ Some table
   pub fits : RowFits table r
   pub fresh : IsRepeated schema before r → ⊥
+  pub kept : IsLeftToDraw schema table r → ⊥
   pub few : length before < 4096
 
 abbrev pub GoodFrom : List Declaration → List Row → List Row → Type 0
@@ -88,6 +102,7 @@ module _ (schema : List Declaration) where
         known = e;
         fits = fits;
         fresh = λ again. right Twice tokens (Repeated r front rest t w is e (fit_length t.columns r.values fits) again);
+        kept = λ left. right Reserved tokens (LeftToDraw r front rest t w is e left);
         few = few;
       }
       by_fit t e false f = absurd (right Typing tokens (Unfit r front rest t w is e (λ fits. let bad : true ≡ false = sym (fit t.columns r.values fits) ∙ f in absurd cc)))
@@ -107,7 +122,7 @@ module _ (schema : List Declaration) where
 
   pub all_fit : AcceptedSchema schema → (before rows : List Row) → GoodFrom schema before rows → All (InitFits schema) (map (init_row schema) rows)
   all_fit accepted before [] good = All-nil (InitFits schema)
-  all_fit accepted before (r ∷ rows) good = All-cons (InitFits schema) (init_row schema r) (map (init_row schema) rows) (init_fits schema accepted r good.0.table good.0.known good.0.fits) (all_fit accepted (before ++ r ∷ []) rows good.1)
+  all_fit accepted before (r ∷ rows) good = All-cons (InitFits schema) (init_row schema r) (map (init_row schema) rows) (init_fits schema accepted r good.0.table good.0.known good.0.fits good.0.kept) (all_fit accepted (before ++ r ∷ []) rows good.1)
 
   apart : (other : Row) (before rows : List Row) → Contains before other → GoodFrom schema before rows → All (λ x. init_place (init_row schema other) ≡ init_place x → ⊥) (map (init_row schema) rows)
   apart other before [] has good = All-nil (λ x. init_place (init_row schema other) ≡ init_place x → ⊥)

@@ -19,13 +19,13 @@ use Rattle.sv_reader.proofs.AnswerLaws.{same_read}
 use Rattle.sv_workload.specs.declared.written.Row.{Row}
 use Rattle.sv_workload.specs.Elements.{Refusals, Begins, Among, AreNone}
 use Rattle.sv_workload.specs.Grammar.{many, row, init_head, Plain}
-use Rattle.sv_workload.specs.InitRefused.{BeginsName, BeginsRow, RowRefused, Misplaced as RowMisplaced, NoTable, Unfit, Repeated, TooMany, InitRefused, InRows, BeginsInit, AreInit, NoInit, Init}
+use Rattle.sv_workload.specs.InitRefused.{BeginsName, BeginsRow, RowRefused, Misplaced as RowMisplaced, NoTable, Unfit, Repeated, LeftToDraw, TooMany, InitRefused, InRows, BeginsInit, AreInit, NoInit, Init}
 use Rattle.sv_workload.specs.Reading.{settled, at_front, row_code, table_meant, row_at, row_from, rows_from, begins_init, init_from}
 use Rattle.sv_workload.specs.Rows.{init_row}
 use Rattle.sv_workload.proofs.JudgeLaws.{Alike, Judged, judged_map}
 use Rattle.sv_workload.proofs.LoopLaws.{Element, Elements, Steps, judged_loop}
 use Rattle.sv_workload.proofs.MarkLaws.{FirstMark, Marks, Standing, Mark, Misplaced, judged_marked}
-use Rattle.sv_workload.proofs.RowLaws.{Wrong, Nameless, Misfit, Again, Crowd, Tells, tells, both_true, true_both}
+use Rattle.sv_workload.proofs.RowLaws.{Wrong, Nameless, Misfit, Again, Crowd, Left, Tells, tells, both_true, true_both}
 use Rattle.sv_workload.proofs.ValueLaws.{row_law}
 
 -- the name at the front
@@ -136,6 +136,7 @@ module _ (schema : List Declaration) where
           by_wrong (Nameless c table is none) = subst (λ x. RowRefused schema before (token ∷ others) x (token ∷ others)) (sym c) (NoTable table is none)
           by_wrong (Misfit c r front rest table whole is its misfit) = subst (λ x. RowRefused schema before (token ∷ others) x (token ∷ others)) (sym c) (Unfit r front rest table whole is its misfit)
           by_wrong (Again c r front rest table whole is its long again) = subst (λ x. RowRefused schema before (token ∷ others) x (token ∷ others)) (sym c) (Repeated r front rest table whole is its long again)
+          by_wrong (Left c r front rest table whole is its left) = subst (λ x. RowRefused schema before (token ∷ others) x (token ∷ others)) (sym c) (LeftToDraw r front rest table whole is its left)
           by_wrong (Crowd c many) = subst (λ x. RowRefused schema before (token ∷ others) x (token ∷ others)) (sym c) (TooMany (begins_row (token ∷ others) e) many)
 
       out : (tokens : List Token) (code : Code) (here : List Token) → RowRefused schema before tokens code here → Standing row_law tokens (marked before tokens) code here
@@ -143,6 +144,7 @@ module _ (schema : List Declaration) where
       out tokens _ _ (NoTable table is none) = Mark (Nameless refl table is none, refl)
       out tokens _ _ (Unfit r front rest table whole is its misfit) = Mark (Misfit refl r front rest table whole is its misfit, refl)
       out tokens _ _ (Repeated r front rest table whole is its long again) = Mark (Again refl r front rest table whole is its long again, refl)
+      out tokens _ _ (LeftToDraw r front rest table whole is its left) = Mark (Left refl r front rest table whole is its left, refl)
       out tokens _ _ (TooMany begins many) = Mark (Crowd refl many, refl)
 
       by_name : Named token → Judged (Element row (token ∷ others)) (RowRefused schema before (token ∷ others)) (token ∷ others)
@@ -174,6 +176,7 @@ module _ (schema : List Declaration) where
       by_case _ _ (NoTable table is none) = contra (name_begins table tokens is) t
       by_case _ _ (Unfit r front rest table whole is its misfit) = no_row r front rest whole is
       by_case _ _ (Repeated r front rest table whole is its long again) = no_row r front rest whole is
+      by_case _ _ (LeftToDraw r front rest table whole is its left) = no_row r front rest whole is
       by_case _ _ (TooMany begins many) = contra (name_begins begins.table tokens begins.is) t
 
   pub row_steps : Steps is_name (row_from schema) (λ rows r. rows ++ init_row schema r ∷ []) (map (init_row schema)) row (RowRefused schema)

@@ -11,6 +11,7 @@ use Rattle.sv_app.specs.declared.requests.Request.{Request}
 use Rattle.sv_app.specs.Accepted.{AcceptedSchema}
 use Rattle.sv_app.specs.Schema.{Declaration}
 use Rattle.sv_app.specs.Trees.{Transaction}
+use Rattle.sv_app.proofs.SchemaLaws.{placed}
 use Rattle.sv_reader.specs.Grammar.{◌·◌, word}
 use Rattle.sv_reader.proofs.PartLaws.{both_assoc}
 use Rattle.sv_workload.specs.declared.parts.Parts.{Parts}
@@ -31,7 +32,7 @@ use Rattle.sv_workload.specs.Reading.{args_fit}
 use Rattle.sv_workload.specs.Rows.{init_row}
 use Rattle.sv_workload.specs.Written.{Line, Ask, Order, Deliver, Settle, Catch, Show, Cut, Session, Last, Absent, Replay, Run}
 use Rattle.sv_workload.proofs.CallMarkLaws.{args_fitting, fitting_args}
-use Rattle.sv_workload.proofs.FitLaws.{placed, all_fit, distinct, few_rows}
+use Rattle.sv_workload.proofs.FitLaws.{all_fit, distinct, few_rows}
 use Rattle.sv_workload.proofs.FrontLaws.{no_setting}
 use Rattle.sv_workload.proofs.KeptLaws.{good}
 use Rattle.sv_workload.proofs.LastLaws.{lines_unset, sessions_unset}

@@ -1,23 +1,28 @@
 -- Initial rows: what is known of a row before it is read, and that the loop judges all of them.
 use Rattle.std.proofs.Common.{◌≡◌, ◌∙◌, ℕ, zero, suc, ◌<◌, ◌≤◌, nat_le, Bool, true, false, not, ◌&&◌, ◌||◌, ◌==◌, slice_index_or, if◌then◌else◌, List, [], ◌∷◌, ◌++◌, length, map, Option, Some, None, Ok, Err, refl, sym, ap, subst, arith}
+use Rattle.std.specs.Prelude.{ℤ, ◌≤ℤ◌, int_le}
 use Rattle.std.specs.List.{list_any}
 use Rattle.std.specs.declared.cmp.Ordering.{Ordering}
 use Rattle.std.specs.declared.cmp.Ordering.TheVariants.{Less, Equal, Greater}
 use Rattle.std.specs.Ordering.{is_eq}
 use Rattle.std.proofs.lemmas.Cmp.{eq_by_cmp_equiv}
 use Rattle.std.proofs.lemmas.Bool.Decides.{nat_tests}
+use Rattle.std.proofs.lemmas.Int.{ints}
 use Rattle.std.proofs.lemmas.List.{length-map}
 use Rattle.sv_value.specs.declared.values.Val.{Val}
 use Rattle.sv_value.specs.declared.values.Val.TheVariants as vals
 use Rattle.sv_lex.specs.declared.tokens.Token.{Token}
 use Rattle.sv_app.specs.declared.apps.Ident.{Ident}
 use Rattle.sv_app.specs.declared.refusals.Code.{Code}
-use Rattle.sv_app.specs.declared.refusals.Code.TheVariants.{Unknown, Twice, Typing, Many}
+use Rattle.sv_app.specs.declared.refusals.Code.TheVariants.{Unknown, Twice, Typing, Many, Reserved}
 use Rattle.sv_app.specs.declared.requests.InitRow.{InitRow}
 use Rattle.sv_app.specs.declared.schemas.Column.{Column}
 use Rattle.sv_app.specs.declared.schemas.Ty.{Ty}
 use Rattle.sv_app.specs.declared.schemas.Ty.TheVariants as types
 use Rattle.sv_app.specs.Codes.{number_of}
+use Rattle.sv_app.specs.Draws.{first_of_all}
+use Rattle.sv_app.specs.Fitting.{number_in}
+use Rattle.sv_app.specs.Kinds.{is_fresh}
 use Rattle.sv_app.specs.Lookups.{table_of}
 use Rattle.sv_app.specs.Schema.{Declaration}
 use Rattle.sv_app.specs.declared.places.Place.{Place}
@@ -36,8 +41,8 @@ use Rattle.sv_reader.proofs.ReadLaws.{Took}
 use Rattle.sv_workload.specs.declared.written.Row.{Row}
 use Rattle.sv_workload.specs.Fits.{RowFits}
 use Rattle.sv_workload.specs.Grammar.{row}
-use Rattle.sv_workload.specs.InitRefused.{BeginsName, IsRepeated}
-use Rattle.sv_workload.specs.Reading.{has_type, values_fit, repeated, row_fault, crowded, or_else, row_code, meant, table_meant, row_at}
+use Rattle.sv_workload.specs.InitRefused.{BeginsName, IsRepeated, IsLeftToDraw}
+use Rattle.sv_workload.specs.Reading.{has_type, values_fit, repeated, crowded, reserved, or_else, whole_code, row_code, meant, table_meant, row_at}
 use Rattle.sv_workload.specs.Rows.{init_row}
 use Rattle.sv_workload.proofs.ValueLaws.{row_law, head_same}
 
@@ -85,6 +90,18 @@ fit_length [] (v ∷ vs) is = absurd is
 fit_length (c ∷ cs) [] is = absurd is
 fit_length (c ∷ cs) (v ∷ vs) is = omega (arith, fit_length cs vs is.1)
 
+-- keys that are drawn, by test
+
+pub le_from : (a b : ℤ) → int_le a b ≡ true → a ≤ℤ b
+le_from a b e = omega (arith, ints, e)
+
+pub to_le : (a b : ℤ) → a ≤ℤ b → int_le a b ≡ true
+to_le a b le = by_test (int_le a b) refl
+  where
+    by_test : (r : Bool) → int_le a b ≡ r → r ≡ true
+    by_test true e = refl
+    by_test false e = absurd (omega (arith, ints, le, e))
+
 -- places by test
 
 pub is_place_same : (p q : Place) → is_place p q ≡ true → p ≡ q
@@ -121,6 +138,18 @@ module _ (schema : List Declaration) where
   is_repeated before r is = any_at (λ x. is_place (init_place x) (init_place (init_row schema r))) before is.earlier.0 is.other is.earlier.1 is.earlier.2
       (subst (λ p. is_place (init_place (init_row schema is.other)) p ≡ true) is.same (same_is_place (init_place (init_row schema is.other))))
 
+  abbrev is_left : Declaration → Row → Bool
+  is_left t r = is_fresh t && int_le first_of_all (number_in (init_row schema r).key.first)
+
+  left_is : (t : Declaration) (r : Row) → is_left t r ≡ true → IsLeftToDraw schema t r
+  left_is t r e =
+      let both = both_true (is_fresh t) (int_le first_of_all (number_in (init_row schema r).key.first)) e in
+      record { fresh = both.0; large = le_from first_of_all (number_in (init_row schema r).key.first) both.1 }
+
+  pub is_left_to_draw : (t : Declaration) (r : Row) → IsLeftToDraw schema t r → is_left t r ≡ true
+  is_left_to_draw t r is = true_both (is_fresh t) (int_le first_of_all (number_in (init_row schema r).key.first)) is.fresh
+      (to_le first_of_all (number_in (init_row schema r).key.first) is.large)
+
   -- what may be refused where a row begins, besides the grammar
   pub data Wrong (before : List Row) (tokens : List Token) (code : Code) : Type 0 where
     Nameless : code ≡ Unknown → (table : Ident) → BeginsName table tokens → table_of schema table ≡ None → Wrong before tokens code
@@ -128,6 +157,8 @@ module _ (schema : List Declaration) where
     Again : code ≡ Twice → (r : Row) (front rest : List Token) (table : Declaration) → tokens ≡ front ++ rest → row r front → table_of schema r.table ≡ Some table → length r.values ≡ length table.columns
         → IsRepeated schema before r → Wrong before tokens code
     Crowd : code ≡ Many → 4096 ≤ length before → Wrong before tokens code
+    Left : code ≡ Reserved → (r : Row) (front rest : List Token) (table : Declaration) → tokens ≡ front ++ rest → row r front
+        → table_of schema r.table ≡ Some table → IsLeftToDraw schema table r → Wrong before tokens code
 
   pub record Lowest (before : List Row) (tokens : List Token) (code : Code) : Type 0 where
     pub is : Wrong before tokens code
@@ -167,21 +198,43 @@ module _ (schema : List Declaration) where
         low other (Misfit e r front rest table whole is its_table fits) = subst (λ c. 2 ≤ number_of c) (sym e) (omega arith)
         low other (Again e r front rest table whole is its_table long again) = subst (λ c. 2 ≤ number_of c) (sym e) (omega arith)
         low other (Crowd e many) = subst (λ c. 2 ≤ number_of c) (sym e) (omega arith)
+        low other (Left e r front rest table whole is its_table left) = subst (λ c. 2 ≤ number_of c) (sym e) (omega arith)
 
     -- a table that is known, and only too many rows
     known : (t : Declaration) → table_of schema ident ≡ Some t → (table : Ident) → BeginsName table tokens → table_of schema table ≡ None → ⊥
     known t e table is none = let same : Some t ≡ None = sym e ∙ ap (table_of schema) (sym (begins_name table token others ident n is)) ∙ none in absurd cc
 
+    -- a row of a known table that fits and stands alone, or none: it may be one too many, or have a key that is drawn
     only_crowd : (t : Declaration) → table_of schema ident ≡ Some t
         → ((r : Row) (front rest : List Token) (table : Declaration) → tokens ≡ front ++ rest → row r front → table_of schema r.table ≡ Some table → (RowFits table r → ⊥) → ⊥)
         → ((r : Row) (front rest : List Token) (table : Declaration) → tokens ≡ front ++ rest → row r front → table_of schema r.table ≡ Some table → length r.values ≡ length table.columns → IsRepeated schema before r → ⊥)
-        → Tells before tokens (crowded rows)
-    only_crowd t e fits alone = by_test (nat_le 4096 (length rows)) refl
+        → (left : Bool) → (left ≡ true → Wrong before tokens Reserved)
+        → (left ≡ false → (r : Row) (front rest : List Token) (table : Declaration) → tokens ≡ front ++ rest → row r front → table_of schema r.table ≡ Some table → IsLeftToDraw schema table r → ⊥)
+        → Tells before tokens (or_else (crowded rows) (given left Reserved))
+    only_crowd t e fits alone left wrong right = by_test (nat_le 4096 (length rows)) refl
       where
         long : length rows ≡ length before
         long = length-map before (init_row schema)
 
-        by_test : (b : Bool) → nat_le 4096 (length rows) ≡ b → Tells before tokens (given b Many)
+        by_left : length before < 4096 → (b : Bool) → left ≡ b → Tells before tokens (given b Reserved)
+        by_left few true l = record { is = wrong l; low = low }
+          where
+            low : (other : Code) → Wrong before tokens other → number_of Reserved ≤ number_of other
+            low other (Nameless o table is no_table) = absurd (known t e table is no_table)
+            low other (Misfit o r front rest table whole is its_table misfit) = absurd (fits r front rest table whole is its_table misfit)
+            low other (Again o r front rest table whole is its_table l again) = absurd (alone r front rest table whole is its_table l again)
+            low other (Crowd o many) = absurd (omega (arith, many, few))
+            low other (Left o r front rest table whole is its_table left) = subst (λ c. 12 ≤ number_of c) (sym o) (omega arith)
+        by_left few false l = none
+          where
+            none : (code : Code) → Wrong before tokens code → ⊥
+            none code (Nameless o table is no_table) = known t e table is no_table
+            none code (Misfit o r front rest table whole is its_table misfit) = fits r front rest table whole is its_table misfit
+            none code (Again o r front rest table whole is its_table l again) = alone r front rest table whole is its_table l again
+            none code (Crowd o many) = omega (arith, many, few)
+            none code (Left o r front rest table whole is its_table is_left) = right l r front rest table whole is its_table is_left
+
+        by_test : (b : Bool) → nat_le 4096 (length rows) ≡ b → Tells before tokens (or_else (given b Many) (given left Reserved))
         by_test true c = record { is = Crowd refl (grind (arith, nat_tests, long, c)); low = low }
           where
             low : (other : Code) → Wrong before tokens other → number_of Many ≤ number_of other
@@ -189,16 +242,8 @@ module _ (schema : List Declaration) where
             low other (Misfit o r front rest table whole is its_table misfit) = absurd (fits r front rest table whole is its_table misfit)
             low other (Again o r front rest table whole is its_table l again) = absurd (alone r front rest table whole is its_table l again)
             low other (Crowd o many) = subst (λ c. 6 ≤ number_of c) (sym o) (omega arith)
-        by_test false c = none
-          where
-            few : length before < 4096
-            few = grind (arith, nat_tests, long, c)
-
-            none : (code : Code) → Wrong before tokens code → ⊥
-            none code (Nameless o table is no_table) = known t e table is no_table
-            none code (Misfit o r front rest table whole is its_table misfit) = fits r front rest table whole is its_table misfit
-            none code (Again o r front rest table whole is its_table l again) = alone r front rest table whole is its_table l again
-            none code (Crowd o many) = omega (arith, many, few)
+            low other (Left o r front rest table whole is its_table is_left) = subst (λ c. 6 ≤ number_of c) (sym o) (omega arith)
+        by_test false c = by_left (grind (arith, nat_tests, long, c)) left refl
 
     -- the row that was read is the one that is there
     same_row : (r s : Row) (rest front behind : List Token) → row_at tokens ≡ Ok (r, rest) → tokens ≡ front ++ behind → row s front → s ≡ r
@@ -206,9 +251,12 @@ module _ (schema : List Declaration) where
         let same = same_read (sym (row_law.reads s front behind is refl) ∙ ap row_at (sym whole) ∙ e) in same.item
 
     -- a whole row of a known table
-    whole_row : (t : Declaration) (r : Row) (rest : List Token) → table_of schema ident ≡ Some t → row_at tokens ≡ Ok (r, rest) → Tells before tokens (or_else (row_fault t rows (init_row schema r)) (crowded rows))
+    whole_row : (t : Declaration) (r : Row) (rest : List Token) → table_of schema ident ≡ Some t → row_at tokens ≡ Ok (r, rest) → Tells before tokens (whole_code t rows (init_row schema r))
     whole_row t r rest e read = by_long (length r.values == length t.columns) refl
       where
+        late : Option Code
+        late = reserved t (init_row schema r)
+
         took : Took row row_at tokens r rest
         took = row_law.took tokens r rest read
 
@@ -229,18 +277,22 @@ module _ (schema : List Declaration) where
             low other (Again o s front behind table whole is its_table l again) = let same = its s front behind table whole is its_table in
                 absurd (alone (subst (λ x. IsRepeated schema before x) same.0 again) (subst (λ x. length r.values ≡ length x.columns) same.1 (subst (λ x. length x.values ≡ length table.columns) same.0 l)))
             low other (Crowd o many) = subst (λ c. 5 ≤ number_of c) (sym o) (omega arith)
+            low other (Left o s front behind table whole is its_table left) = subst (λ c. 5 ≤ number_of c) (sym o) (omega arith)
 
-        by_fit : (b : Bool) → values_fit t.columns r.values ≡ b → repeated rows (init_row schema r) ≡ false → Tells before tokens (or_else (if b then None else Some Typing) (crowded rows))
+        by_fit : (b : Bool) → values_fit t.columns r.values ≡ b → repeated rows (init_row schema r) ≡ false → Tells before tokens (or_else (or_else (if b then None else Some Typing) (crowded rows)) late)
         by_fit true f again = only_crowd t e
             (λ s front behind table whole is its_table misfit. let same = its s front behind table whole is its_table in
             misfit (subst (λ x. RowFits x s) (sym same.1) (subst (λ x. RowFits t x) (sym same.0) (fitting t.columns r.values f))))
             (λ s front behind table whole is its_table l a. let same = its s front behind table whole is its_table in
             let twice : true ≡ false = sym (is_repeated before r (subst (λ x. IsRepeated schema before x) same.0 a)) ∙ again in absurd cc)
+            (is_left t r) (λ l. Left refl r took.front rest t took.whole took.is of_table (left_is t r l))
+            (λ l s front behind table whole is its_table left. let same = its s front behind table whole is its_table in
+            let bad : true ≡ false = sym (is_left_to_draw t r (subst (λ x. IsLeftToDraw schema x r) same.1 (subst (λ x. IsLeftToDraw schema table x) same.0 left))) ∙ l in absurd cc)
         by_fit false f again = typing (λ is. let bad : true ≡ false = sym (fit t.columns r.values is) ∙ f in absurd cc)
             (λ a l. let twice : true ≡ false = sym (is_repeated before r a) ∙ again in absurd cc)
 
         by_again : (b : Bool) → repeated rows (init_row schema r) ≡ b → length r.values ≡ length t.columns
-            → Tells before tokens (or_else (if b then Some Twice else if values_fit t.columns r.values then None else Some Typing) (crowded rows))
+            → Tells before tokens (or_else (or_else (if b then Some Twice else if values_fit t.columns r.values then None else Some Typing) (crowded rows)) late)
         by_again true again l = record { is = Again refl r took.front rest t took.whole took.is of_table l (repeated_is before r again); low = low }
           where
             low : (other : Code) → Wrong before tokens other → number_of Twice ≤ number_of other
@@ -248,9 +300,11 @@ module _ (schema : List Declaration) where
             low other (Misfit o s front behind table whole is its_table m) = subst (λ c. 3 ≤ number_of c) (sym o) (omega arith)
             low other (Again o s front behind table whole is its_table l' again) = subst (λ c. 3 ≤ number_of c) (sym o) (omega arith)
             low other (Crowd o many) = subst (λ c. 3 ≤ number_of c) (sym o) (omega arith)
+            low other (Left o s front behind table whole is its_table left) = subst (λ c. 3 ≤ number_of c) (sym o) (omega arith)
         by_again false again l = by_fit (values_fit t.columns r.values) refl again
 
-        by_long : (b : Bool) → (length r.values == length t.columns) ≡ b → Tells before tokens (or_else (if not b then Some Typing else if repeated rows (init_row schema r) then Some Twice else if values_fit t.columns r.values then None else Some Typing) (crowded rows))
+        by_long : (b : Bool) → (length r.values == length t.columns) ≡ b → Tells before tokens
+            (or_else (or_else (if not b then Some Typing else if repeated rows (init_row schema r) then Some Twice else if values_fit t.columns r.values then None else Some Typing) (crowded rows)) late)
         by_long true l = by_again (repeated rows (init_row schema r)) refl (grind (arith, nat_tests, l))
         by_long false l = typing (λ is. not_long (fit_length t.columns r.values is)) (λ a e. not_long e)
           where
@@ -259,8 +313,13 @@ module _ (schema : List Declaration) where
 
     -- a row that isn't whole
     part_row : (t : Declaration) (fault : ReadFault) → table_of schema ident ≡ Some t → row_at tokens ≡ Err fault → Tells before tokens (crowded rows)
-    part_row t fault e read = only_crowd t e (λ s front behind table whole is its_table misfit. no_row s front behind whole is) (λ s front behind table whole is its_table l a. no_row s front behind whole is)
+    part_row t fault e read = subst (λ code. Tells before tokens code) (or_none (crowded rows)) (only_crowd t e (λ s front behind table whole is its_table misfit. no_row s front behind whole is)
+        (λ s front behind table whole is its_table l a. no_row s front behind whole is) false (λ l. absurd cc) (λ l s front behind table whole is its_table left. no_row s front behind whole is))
       where
+        or_none : (code : Option Code) → or_else code None ≡ code
+        or_none None = refl
+        or_none (Some code) = refl
+
         no_row : (s : Row) (front behind : List Token) → tokens ≡ front ++ behind → row s front → ⊥
         no_row s front behind whole is = let bad : ◌≡◌ {A = Read Row} (Ok (s, behind)) (Err fault) = sym (row_law.reads s front behind is refl) ∙ ap row_at (sym whole) ∙ read in absurd cc
 

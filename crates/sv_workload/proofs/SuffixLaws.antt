@@ -12,7 +12,7 @@ use Rattle.sv_workload.specs.LastRefused.{CallRefused, NoTxn, LongList, LineRefu
 use Rattle.sv_workload.specs.LastRefused as last
 use Rattle.sv_workload.specs.Written.{Line, Session}
 use Rattle.sv_app.specs.Trees.{Transaction}
-use Rattle.sv_workload.specs.InitRefused.{RowRefused, Misplaced, NoTable, Unfit, Repeated, TooMany, InitRefused, InRows}
+use Rattle.sv_workload.specs.InitRefused.{RowRefused, Misplaced, NoTable, Unfit, Repeated, LeftToDraw, TooMany, InitRefused, InRows}
 
 pub record Suffix (tokens here : List Token) : Type 0 where
   pub front : List Token
@@ -35,6 +35,7 @@ row_suffix schema before tokens _ _ (Misplaced here begins is) = record { front 
 row_suffix schema before tokens _ _ (NoTable table is none) = all_of tokens
 row_suffix schema before tokens _ _ (Unfit r front rest table w is its misfit) = all_of tokens
 row_suffix schema before tokens _ _ (Repeated r front rest table w is its long again) = all_of tokens
+row_suffix schema before tokens _ _ (LeftToDraw r front rest table w is its left) = all_of tokens
 row_suffix schema before tokens _ _ (TooMany begins many) = all_of tokens
 
 pub init_suffix : (schema : List Declaration) (tokens : List Token) (code : Code) (here : List Token) → InitRefused schema tokens code here → Suffix tokens here

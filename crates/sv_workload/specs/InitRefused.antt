@@ -1,12 +1,15 @@
 -- Where initial rows are refused.
-use Rattle.std.specs.Prelude.{◌≡◌, ◌≤◌, List, [], ◌∷◌, ◌++◌, length, Some, None, codes}
+use Rattle.std.specs.Prelude.{◌≡◌, ◌≤◌, ◌≤ℤ◌, true, List, [], ◌∷◌, ◌++◌, length, Some, None, codes}
 use Rattle.std.specs.List.{Contains}
 use Rattle.sv_lex.specs.declared.marks.Mark.TheVariants.{Percents}
 use Rattle.sv_lex.specs.declared.tokens.Token.{Token}
 use Rattle.sv_lex.specs.declared.tokens.TokenKind.TheVariants.{Name, Mark}
 use Rattle.sv_app.specs.declared.apps.Ident.{Ident}
 use Rattle.sv_app.specs.declared.refusals.Code.{Code}
-use Rattle.sv_app.specs.declared.refusals.Code.TheVariants.{Syntax, Unknown, Twice, Typing, Many}
+use Rattle.sv_app.specs.declared.refusals.Code.TheVariants.{Syntax, Unknown, Twice, Typing, Many, Reserved}
+use Rattle.sv_app.specs.Draws.{first_of_all}
+use Rattle.sv_app.specs.Fitting.{number_in}
+use Rattle.sv_app.specs.Kinds.{is_fresh}
 use Rattle.sv_app.specs.Lookups.{table_of}
 use Rattle.sv_app.specs.Schema.{Declaration}
 use Rattle.sv_effect.specs.TablesOfCut.{init_place}
@@ -33,6 +36,11 @@ pub record IsRepeated (schema : List Declaration) (before : List Row) (r : Row) 
   pub earlier : Contains before other
   pub same : init_place (init_row schema other) ≡ init_place (init_row schema r)
 
+-- the row's key is one of those that its table draws
+pub record IsLeftToDraw (schema : List Declaration) (table : Declaration) (r : Row) : Type 0 where
+  pub fresh : is_fresh table ≡ true
+  pub large : first_of_all ≤ℤ number_in (init_row schema r).key.first
+
 -- a refusal in the row that begins here, behind these rows
 pub data RowRefused (schema : List Declaration) (before : List Row) (tokens : List Token) : Code → List Token → Type 0 where
   Misplaced : (here : List Token) → BeginsRow tokens → IsMisplaced row tokens here → RowRefused schema before tokens Syntax here
@@ -41,6 +49,8 @@ pub data RowRefused (schema : List Declaration) (before : List Row) (tokens : Li
       → RowRefused schema before tokens Typing tokens
   Repeated : (r : Row) (front rest : List Token) (table : Declaration) → tokens ≡ front ++ rest → row r front → table_of schema r.table ≡ Some table → length r.values ≡ length table.columns
       → IsRepeated schema before r → RowRefused schema before tokens Twice tokens
+  LeftToDraw : (r : Row) (front rest : List Token) (table : Declaration) → tokens ≡ front ++ rest → row r front → table_of schema r.table ≡ Some table
+      → IsLeftToDraw schema table r → RowRefused schema before tokens Reserved tokens
   TooMany : BeginsRow tokens → 4096 ≤ length before → RowRefused schema before tokens Many tokens
 
 -- a refusal in the initial rows

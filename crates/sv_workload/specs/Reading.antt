@@ -9,13 +9,16 @@ use Rattle.sv_lex.specs.declared.tokens.TokenKind.{TokenKind}
 use Rattle.sv_lex.specs.declared.tokens.TokenKind.TheVariants.{Name, Number, Mark}
 use Rattle.sv_app.specs.declared.apps.Ident.{Ident}
 use Rattle.sv_app.specs.declared.refusals.Code.{Code}
-use Rattle.sv_app.specs.declared.refusals.Code.TheVariants.{Syntax, Unknown, Twice, Typing, Many}
+use Rattle.sv_app.specs.declared.refusals.Code.TheVariants.{Syntax, Unknown, Twice, Typing, Many, Reserved}
 use Rattle.sv_app.specs.declared.requests.Arg.{Arg}
 use Rattle.sv_app.specs.declared.requests.Arg.TheVariants as args
 use Rattle.sv_app.specs.declared.requests.InitRow.{InitRow}
 use Rattle.sv_app.specs.declared.schemas.Column.{Column}
 use Rattle.sv_app.specs.declared.schemas.Ty.{Ty}
 use Rattle.sv_app.specs.declared.schemas.Ty.TheVariants as types
+use Rattle.sv_app.specs.Draws.{first_of_all}
+use Rattle.sv_app.specs.Fitting.{number_in}
+use Rattle.sv_app.specs.Kinds.{is_fresh}
 use Rattle.sv_app.specs.Lookups.{table_of}
 use Rattle.sv_app.specs.Schema.{Declaration}
 use Rattle.sv_app.specs.Trees.{Transaction}
@@ -103,10 +106,18 @@ row_fault table rows row =
 abbrev pub crowded : List InitRow → Option Code
 crowded rows = given (nat_le 4096 (length rows)) Many
 
+-- no initial row has a key that its table draws
+abbrev pub reserved : Declaration → InitRow → Option Code
+reserved table row = given (is_fresh table && int_le first_of_all (number_in row.key.first)) Reserved
+
+-- what is wrong with a whole row of the table, behind these rows
+abbrev pub whole_code : Declaration → List InitRow → InitRow → Option Code
+whole_code table rows row = or_else (or_else (row_fault table rows row) (crowded rows)) (reserved table row)
+
 -- what is wrong where a row begins, by its table, if there is one, and by what is read of it
 abbrev pub row_code : List Declaration → Option Declaration → List InitRow → Read Row → Option Code
 row_code schema None rows read = Some Unknown
-row_code schema (Some table) rows (Ok read) = or_else (row_fault table rows (init_row schema read.0)) (crowded rows)
+row_code schema (Some table) rows (Ok read) = whole_code table rows (init_row schema read.0)
 row_code schema (Some table) rows (Err fault) = crowded rows
 
 abbrev pub meant : List Declaration → Option Ident → Option Declaration

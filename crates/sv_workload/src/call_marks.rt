@@ -9,9 +9,8 @@ ghost use Rattle.sv_workload.specs.Reading.{arg_fits, args_fit, txn_meant, call_
 use crate::calls::call;
 use crate::inits::name_of;
 use crate::longs::long_call;
-use crate::rows::is_named;
 use std::alloc::Global;
-use sv_app::{Arg, Code, Ident, Txn, Ty};
+use sv_app::{Arg, Code, Ident, Txn, Ty, is_named};
 use sv_lex::Token;
 use sv_reader::{ReadFault, ReadStop, Reader};
 use sv_value::NoMemory;

@@ -8,7 +8,7 @@ ghost use Rattle.sv_reader.specs.Reading.{Reads, is_name, is_kind, name_of};
 ghost use Rattle.sv_workload.specs.Reading.{table_meant, as_item, row_from, row_step, rows_from, begins_init, init_from};
 ghost use Rattle.sv_workload.specs.Rows.{init_row};
 
-use crate::rows::{crowded, init_row, row_fault, table_place};
+use crate::rows::{crowded, init_row, table_place, whole_code};
 use crate::so_far::RowsSoFar;
 use crate::values::row;
 use std::alloc::Global;
@@ -69,10 +69,7 @@ fn row_of(
     match row(alloc, reader) {
         Ok(written) => {
             let next = init_row(tables, written);
-            if let Some(code) = row_fault(&tables[place], rows, &next) {
-                return Err(fault_at(code, start));
-            }
-            match crowded(rows) {
+            match whole_code(&tables[place], rows, &next) {
                 Some(code) => Err(fault_at(code, start)),
                 None => Ok(next),
             }

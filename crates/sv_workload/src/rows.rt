@@ -1,24 +1,19 @@
 ghost use Rattle.std.specs.Prelude.{◌≡◌, ◌<◌, ◌≤◌, length, slice_get, IfSome, MatchOption};
 ghost use Rattle.std.specs.Prelude.{None as none};
-ghost use Rattle.sv_app.specs.Lookups.{is_named, place_of, table_of, table_names};
+ghost use Rattle.sv_app.specs.Fitting.{number_in};
+ghost use Rattle.sv_app.specs.Lookups.{place_of, table_of, table_names};
 ghost use Rattle.sv_app.specs.Schema.{declaration_of, schema_of};
 ghost use Rattle.sv_app.specs.Slots.{item};
 ghost use Rattle.sv_effect.specs.RunChanges.{key_in};
 ghost use Rattle.sv_effect.specs.RunValues.{nothing};
-ghost use Rattle.sv_workload.specs.Reading.{has_type, values_fit, row_fault, crowded};
+ghost use Rattle.sv_workload.specs.Reading.{has_type, values_fit, row_fault, crowded, reserved, whole_code};
 ghost use Rattle.sv_workload.specs.Rows.{init_row};
 
 use crate::so_far::RowsSoFar;
 use crate::written::Row;
 use sv_app::limits::MOST_INIT_ROWS;
-use sv_app::{Code, Column, Ident, InitRow, Table, Ty};
+use sv_app::{Code, Column, FIRST_OF_ALL, Ident, InitRow, Table, Ty, is_fresh, is_named};
 use sv_value::{Key, Val};
-
-pub fn is_named(name: &Ident, other: &Ident) -> bool
-    ensures { result ≡ is_named name.now other.now }
-{
-    name.name.bytes() == other.name.bytes()
-}
 
 /// The place of the first table of that name.
 pub fn table_place(tables: &[Table], name: &Ident) -> Option<usize>
@@ -116,8 +111,8 @@ pub fn init_row(tables: &[Table], row: Row) -> InitRow
     }
 }
 
-/// What is wrong with a row of the table, behind these rows.
-pub fn row_fault(table: &Table, rows: &RowsSoFar, row: &InitRow) -> Option<Code>
+/// What is wrong with the values and the place of a row of the table, behind these rows.
+fn row_fault(table: &Table, rows: &RowsSoFar, row: &InitRow) -> Option<Code>
     ensures { result ≡ row_fault (declaration_of table.now) rows.now.rows row.now }
 {
     if row.values.len() != table.columns.len() {
@@ -140,4 +135,36 @@ pub fn crowded(rows: &RowsSoFar) -> Option<Code>
         return Some(Code::Many);
     }
     None
+}
+
+fn number_in(value: &Val) -> i64
+    ensures { result ≡ number_in value.now }
+{
+    match value {
+        Val::Int(number) => *number,
+        Val::Text(_) => 0,
+    }
+}
+
+/// Whether the row has a key that its table draws.
+fn reserved(table: &Table, row: &InitRow) -> Option<Code>
+    ensures { result ≡ reserved (declaration_of table.now) row.now }
+{
+    if is_fresh(table) && number_in(&row.key.first) >= FIRST_OF_ALL {
+        return Some(Code::Reserved);
+    }
+    None
+}
+
+/// What is wrong with a whole row of the table, behind these rows.
+pub fn whole_code(table: &Table, rows: &RowsSoFar, row: &InitRow) -> Option<Code>
+    ensures { result ≡ whole_code (declaration_of table.now) rows.now.rows row.now }
+{
+    if let Some(code) = row_fault(table, rows, row) {
+        return Some(code);
+    }
+    if let Some(code) = crowded(rows) {
+        return Some(code);
+    }
+    reserved(table, row)
 }
