@@ -61,7 +61,8 @@ pub fn prepend<T: Drop>(first: T, rest: List<T>) -> Result<List<T>, NoMemory>
     Ok(List::from_vec(items))
 }
 
-fn zero_of(ty: Ty) -> Val
+/// The value of a column in a row that nothing was written to.
+pub fn zero_of(ty: Ty) -> Val
     ensures { result ≡ zero_of ty }
 {
     match ty {

@@ -1,15 +1,15 @@
 ghost use Rattle.std.specs.Prelude.{◌≡◌, ◌≤◌, ◌∷◌, [], true, length, slice_get};
 ghost use Rattle.sv_app.specs.Schema.{declaration_of};
 ghost use Rattle.sv_effect.specs.StampedTables.{row_of, zero_stamp};
-ghost use Rattle.sv_effect.specs.RowChange.{cell_from, cells_from, zero_of, key_values, from_key, row_from, zero_row};
+ghost use Rattle.sv_effect.specs.RowChange.{cell_from, cells_from, key_values, from_key, row_from, zero_row};
 ghost use Rattle.sv_effect.specs.Fits.{CountsFit};
 ghost use Rattle.sv_effect.specs.TablesOfCut.{init_place};
 ghost use Rattle.sv_store.specs.Named.{is_named, zero_cells};
 
 use arrayvec::ArrayVec;
-use sv_app::{Column, Ident, InitRow, Merge, Place, Table, Ty};
-use sv_effect::{Cell, Row};
-use sv_value::{Key, Stamp, Text, Val};
+use sv_app::{Column, Ident, InitRow, Merge, Place, Table};
+use sv_effect::{Cell, Row, zero_of};
+use sv_value::{Key, Stamp, Val};
 
 /// A row that is kept, and where it stands.
 #[derive(Debug, Drop)]
@@ -57,19 +57,6 @@ fn cells_from(columns: &[Column], values: &[Val]) -> ArrayVec<Cell, 16>
         cells.push(cell_from(column.merge, values[number]));
     }
     cells
-}
-
-/// The value of a column in a row that nothing was written to.
-fn zero_of(ty: Ty) -> Val
-    ensures { result ≡ zero_of ty }
-{
-    match ty {
-        Ty::Text => match Text::new(&[]) {
-            Some(text) => Val::Text(text),
-            None => unreachable!(),
-        },
-        Ty::Int | Ty::Ints => Val::Int(0),
-    }
 }
 
 /// Whether the name that stands there is that of the column.
