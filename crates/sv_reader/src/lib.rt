@@ -8,4 +8,4 @@ mod readers;
 
 pub use faults::{ReadFault, ReadStop};
 pub use places::{refusal_of, spot_of};
-pub use readers::Reader;
+pub use readers::{Reader, name_of};

@@ -19,7 +19,7 @@ fn is_mark(wanted: Mark, found: Mark) -> bool
 }
 
 /// The name that a token is, unless it is a reserved word.
-fn name_of(token: &Token) -> Option<Ident>
+pub fn name_of(token: &Token) -> Option<Ident>
     ensures { result ≡ name_of token.now }
 {
     match &token.kind {

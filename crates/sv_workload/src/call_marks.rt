@@ -7,12 +7,11 @@ ghost use Rattle.sv_workload.specs.Fits.{txn_of};
 ghost use Rattle.sv_workload.specs.Reading.{arg_fits, args_fit, txn_meant, call_at, call_code, call_mark};
 
 use crate::calls::call;
-use crate::inits::name_of;
 use crate::longs::long_call;
 use std::alloc::Global;
 use sv_app::{Arg, Code, Ident, Txn, Ty, is_named};
 use sv_lex::Token;
-use sv_reader::{ReadFault, ReadStop, Reader};
+use sv_reader::{ReadFault, ReadStop, Reader, name_of};
 use sv_value::NoMemory;
 
 /// The place of the first transaction of that name.

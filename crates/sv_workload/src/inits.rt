@@ -4,7 +4,7 @@ ghost use Rattle.sv_app.specs.Schema.{schema_of};
 ghost use Rattle.sv_lex.specs.declared.marks.Mark.TheVariants.{Percents};
 ghost use Rattle.sv_lex.specs.declared.tokens.TokenKind.TheVariants.{Name as IsName, Mark as IsMark};
 ghost use Rattle.sv_reader.specs.declared.faults.ReadStop.TheVariants.{Faulty};
-ghost use Rattle.sv_reader.specs.Reading.{Reads, is_name, is_kind, name_of};
+ghost use Rattle.sv_reader.specs.Reading.{Reads, is_name, is_kind};
 ghost use Rattle.sv_workload.specs.Reading.{table_meant, as_item, row_from, row_step, rows_from, begins_init, init_from};
 ghost use Rattle.sv_workload.specs.Rows.{init_row};
 
@@ -12,9 +12,9 @@ use crate::rows::{crowded, init_row, table_place, whole_code};
 use crate::so_far::RowsSoFar;
 use crate::values::row;
 use std::alloc::Global;
-use sv_app::{Code, Ident, InitRow, Table, is_reserved};
+use sv_app::{Code, InitRow, Table};
 use sv_lex::{Mark, Token, TokenKind};
-use sv_reader::{ReadFault, ReadStop, Reader};
+use sv_reader::{ReadFault, ReadStop, Reader, name_of};
 use sv_value::List;
 
 /// The fault of an element that begins where so many tokens were left.
@@ -22,20 +22,6 @@ fn fault_at(code: Code, left: usize) -> ReadStop
     ensures { result ≡ Faulty (record { code = code; left = left }) }
 {
     ReadStop::Faulty(ReadFault { code, left })
-}
-
-/// The name that a token is, unless it is a reserved word.
-pub fn name_of(token: &Token) -> Option<Ident>
-    ensures { result ≡ name_of token.now }
-{
-    match &token.kind {
-        TokenKind::Name(name) if !is_reserved(name.bytes()) => Some(Ident {
-            name: *name,
-            spot: token.spot,
-            num: 0,
-        }),
-        _ => None,
-    }
 }
 
 /// The place of the table that the first token names.

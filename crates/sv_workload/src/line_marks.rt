@@ -6,7 +6,6 @@ ghost use Rattle.sv_workload.specs.LineReading.{is_full, most_number, most_packe
 ghost use Rattle.sv_workload.specs.Reading.{out_mark, count_at, from_read};
 
 use crate::call_marks::call_mark;
-use crate::inits::name_of;
 use crate::lines::{Steps, color_of, verb_of};
 use crate::rows::table_place;
 use crate::settings::out_mark;
@@ -16,7 +15,7 @@ use std::alloc::Global;
 use sv_app::limits::{MOST_REQUESTS, MOST_SESSIONS, MOST_SHOWS, MOST_STEPS};
 use sv_app::{App, Code, Table, Txn};
 use sv_lex::Token;
-use sv_reader::{ReadFault, Reader};
+use sv_reader::{ReadFault, Reader, name_of};
 use sv_value::NoMemory;
 
 /// The greatest number of a packet.
