@@ -14,15 +14,15 @@ use Rattle.sv_app.specs.Fitting.{HasType}
 use Rattle.sv_app.specs.Schema.{Declaration}
 use Rattle.sv_app.specs.Scopes.{Scope}
 use Rattle.sv_app.specs.Tables.{Row, Tables}
-use Rattle.sv_app.specs.Trees.{Term, Test, Command, Declare, Assign, Fetch, Choose, ForRows, ForEach, Insert, Update, Remove, Reply, Block, Finish, Then}
+use Rattle.sv_app.specs.Trees.{Term, Test, Command, Declare, Assign, Fetch, Choose, ForRows, ForEach, Insert, Fresh, Update, Remove, Reply, Block, Finish, Then}
 use Rattle.sv_app.specs.TxnTyping.{behind}
 use Rattle.sv_app.specs.Units.{loop_variables, unit_of}
 use Rattle.sv_effect.specs.declared.outcomes.Outcome.{Outcome}
 use Rattle.sv_effect.specs.declared.outcomes.Outcome.TheVariants as outcomes
 use Rattle.sv_effect.specs.declared.left.LeftRow.{LeftRow}
 use Rattle.sv_effect.specs.Overlays.{over, left_row, left_rows, FoundFits}
-use Rattle.sv_effect.specs.Run.{Stand, Flow, Goes, Ends, Setting, run_command, with_scope, with_row, place_of_row, on_present, inserted, updated, removed, closed, left_loop, items_of}
-use Rattle.sv_effect.specs.RunChanges.{key_in}
+use Rattle.sv_effect.specs.Run.{Stand, Flow, Goes, Ends, Setting, run_command, with_scope, with_row, place_of_row, on_present, inserted, drawn, updated, removed, closed, left_loop, items_of}
+use Rattle.sv_effect.specs.RunChanges.{key_in, drawn_key}
 use Rattle.sv_effect.specs.RunValues.{Progress, Gives, values_of, truth_of}
 use Rattle.sv_interp.specs.declared.states.State.{State}
 use Rattle.sv_interp.specs.declared.scopes.Progress.{Progress as Began}
@@ -34,6 +34,7 @@ use Rattle.sv_trace.specs.Standing.{Frame, RowAt, BlockIn, CommandIn, Holds, Pas
 use Rattle.sv_interp.proofs.LookLaws.{found_fits}
 use Rattle.sv_trace.proofs.BlockLaws.{first_in, rest_in, passes_finish, passes_then}
 use Rattle.sv_trace.proofs.ChangeLaws.{own_rows_fit, makes_remove}
+use Rattle.sv_trace.proofs.FreshLaws.{makes_fresh}
 use Rattle.sv_trace.proofs.InsertLaws.{makes_insert}
 use Rattle.sv_trace.proofs.LoopLaws.{yes_in, no_in, test_holds, makes_yes, makes_no, turned_none, turned_more, makes_rows, makes_items}
 use Rattle.sv_trace.proofs.StatementLaws.{makes_declare, makes_assign, makes_fetch, makes_reply}
@@ -262,6 +263,19 @@ keeps_insert is_of g table terms d p values vs s u w end e z after declared plac
       let found = looks.finds f.schema is (own_fits f at s u holds after) none in
       makes_insert f at table terms (calm s) vs (scope_of u.scope) d p found.row (calm w) inside holds (e ∙ ap (λ o. evaluated o u.scope) z)
       (ap (λ l. slice_get l table.num) (sym setting.schema) ∙ declared) place found.fits (ap (λ st. inserted d p vs found.row st) (sym after) ∙ found.made);
+}
+
+pub keeps_fresh : (is_of : List Declaration → Type 0) (g : Setting) (x table : Ident) (terms : List Term) (d : Declaration) (p : Place) (values : Option (List Val)) (vs : List Val) (s u w : State) (end : Option Outcome)
+    → values_of terms (scope_of s.scope) ≡ evaluated values u.scope → values ≡ Some vs → calm u ≡ with_scope (calm s) (scope_of u.scope) → slice_get g.schema table.num ≡ Some d
+    → p ≡ record { table = table.num; key = drawn_key g.first (calm s).effects } → LooksUp is_of p (λ row st. drawn x.num d p vs row st) u end w → Keeps is_of g (Statement (Fresh x table terms)) s end w
+keeps_fresh is_of g x table terms d p values vs s u w end e z after declared place looks = record {
+  keeps = λ f at frame setting is inside holds none.
+      let found = looks.finds f.schema is (own_fits f at s u holds after) none in
+      let here : p ≡ record { table = table.num; key = drawn_key f.first (calm s).effects } =
+      place ∙ ap (λ n. let q : Place = record { table = table.num; key = drawn_key n (calm s).effects } in q) setting.first in
+      makes_fresh f at x table terms (calm s) vs (scope_of u.scope) d found.row (calm w) inside holds (e ∙ ap (λ o. evaluated o u.scope) z)
+      (ap (λ l. slice_get l table.num) (sym setting.schema) ∙ declared)
+      (ap (λ q. drawn x.num d q vs found.row (with_scope (calm s) (scope_of u.scope))) (sym here) ∙ ap (λ st. drawn x.num d p vs found.row st) (sym after) ∙ found.made);
 }
 
 -- the row that has to be present

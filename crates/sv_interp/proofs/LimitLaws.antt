@@ -10,7 +10,7 @@ use Rattle.sv_app.specs.Accepted.{AcceptedApp}
 use Rattle.sv_app.specs.Conditions.{IsSmallTable}
 use Rattle.sv_app.specs.Schema.{Declaration, declaration_of}
 use Rattle.sv_app.specs.Statements.{inner_statements, block_statements}
-use Rattle.sv_app.specs.Trees.{Command, Declare, Assign, Fetch, Choose, ForRows, ForEach, Insert, Update, Remove, Abort, Reply, Block, Finish, Then, Transaction}
+use Rattle.sv_app.specs.Trees.{Command, Declare, Assign, Fetch, Choose, ForRows, ForEach, Insert, Fresh, Update, Remove, Abort, Reply, Block, Finish, Then, Transaction}
 use Rattle.sv_app.specs.TxnConditions.{IsSmallTxn}
 use Rattle.sv_app.specs.Units.{command_loops, block_loops, loop_variables}
 use Rattle.sv_effect.specs.Run.{body_of}
@@ -45,6 +45,7 @@ mutual
   command_few (ForRows r t c body) = let inner = block_few body in omega (arith, inner)
   command_few (ForEach x l body) = let inner = block_few body in omega (arith, inner)
   command_few (Insert t vs) = omega arith
+  command_few (Fresh x t vs) = omega arith
   command_few (Update t k ss) = omega arith
   command_few (Remove t k) = omega arith
   command_few (Abort n) = omega arith

@@ -21,6 +21,7 @@ use Rattle.sv_trace.specs.Standing.{Frame, IsFrame, RowAt, BlockIn, CommandIn, H
 -- the run is one of the transaction
 pub record IsSettingOf (f : Frame) (g : run.Setting) : Type 0 where
   pub schema : g.schema ≡ f.schema
+  pub first : g.first ≡ f.first
   pub loops : g.loops ≡ loop_variables f.txn.body
 
 -- a block in a turn of a loop, with the instance closed behind it

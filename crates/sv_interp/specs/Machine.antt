@@ -47,7 +47,7 @@ declared (Some table) = Some (declaration_of table.now)
 
 -- where a run stands: the rows that it wrote itself, the latest first, over given tables
 abbrev pub stand : Tables → State → Stand
-stand t s = record { scope = scope_of s.scope; tables = over s.own.items t; effects = map effect_of s.effects; replies = s.replies; instances = s.instances }
+stand t s = record { scope = scope_of s.scope; tables = over s.own.items t; effects = map effect_of s.effects.list; replies = s.replies; instances = s.instances }
 
 -- where a run stands, over no tables: the rows that it wrote itself are in it
 abbrev pub calm : State → Stand
@@ -58,7 +58,7 @@ flow_of None st = Goes st
 flow_of (Some o) st = Ends o
 
 abbrev pub setting_of : Setting → run.Setting
-setting_of g = record { schema = schema_of g.tables.now; arguments = g.args.now; loops = g.loops.now }
+setting_of g = record { schema = schema_of g.tables.now; arguments = g.args.now; first = g.first; loops = g.loops.now }
 
 -- What a step did between two moments, with the rows and with the state: it is what the meaning does, of all tables that agree with the answers given.
 pub record Runs (meaning : Stand → Flow) (face_before face_now : Face) (before now : Option (List ReadValue)) (s : State) (end : Option Outcome) (s' : State) : Type 0 where

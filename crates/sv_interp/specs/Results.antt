@@ -1,5 +1,5 @@
 -- What the result of a run is like, whatever the rows answer.
-use Rattle.std.specs.Prelude.{◌≡◌, ◌≤◌, ℕ, List, [], length, Some, slice_get}
+use Rattle.std.specs.Prelude.{◌≡◌, ◌≤◌, ℕ, ℤ, List, [], length, Some, slice_get}
 use Rattle.std.specs.List.{All}
 use Rattle.sv_app.specs.declared.apps.App.{App}
 use Rattle.sv_app.specs.declared.requests.Arg.{Arg}
@@ -29,12 +29,13 @@ pub record IsRunnable (schema : List Declaration) (txns : List Transaction) (req
   pub among : slice_get txns request.txn ≡ Some txn
   pub fits : ArgsFit txn.params request.args
 
--- that body is the transaction's, run on its arguments
-pub record IsBodyOf (f : Frame) (schema : List Declaration) (body : Block) (args : List Arg) : Type 0 where
+-- that body is the transaction's, run on its arguments with its first key
+pub record IsBodyOf (f : Frame) (schema : List Declaration) (body : Block) (args : List Arg) (first : ℤ) : Type 0 where
   pub frame : IsFrame f
   pub same_schema : f.schema ≡ schema
   pub same_body : f.txn.body ≡ body
   pub same_args : f.args ≡ args
+  pub same_first : f.first ≡ first
 
 -- each instance is shaped, and there are at most 64 changes, each of which fits the schema
 pub record RunFits (schema : List Declaration) (txn : Transaction) (ran : Ran) : Type 0 where
@@ -44,14 +45,14 @@ pub record RunFits (schema : List Declaration) (txn : Transaction) (ran : Ran) :
 
 -- on these tables a body comes to that, and so does a transaction of an application
 abbrev pub IsRunOfBody : Setting → Block → Ran → Tables → Type 0
-IsRunOfBody g body ran t = run_body (setting_of g).schema body (setting_of g).arguments t ≡ ran_of ran
+IsRunOfBody g body ran t = run_body (setting_of g).schema body (setting_of g).arguments (setting_of g).first t ≡ ran_of ran
 
-abbrev pub IsRunOf : App → ℕ → List Arg → Ran → Tables → Type 0
-IsRunOf app txn args ran t = run (schema_of app.tables.items) (transactions_of app.txns.items) (request_of txn args) t ≡ ran_of ran
+abbrev pub IsRunOf : App → ℕ → List Arg → ℤ → Ran → Tables → Type 0
+IsRunOf app txn args first ran t = run (schema_of app.tables.items) (transactions_of app.txns.items) (request_of txn args) first t ≡ ran_of ran
 
 -- the result fits, where the body is that of an accepted transaction whose arguments fit, and the rows are of its application
 abbrev pub BodyFits : (List Declaration → Type 0) → Setting → Block → Ran → Type 0
-BodyFits is_of g body ran = (f : Frame) → IsBodyOf f (setting_of g).schema body (setting_of g).arguments → is_of f.schema → RunFits f.schema f.txn ran
+BodyFits is_of g body ran = (f : Frame) → IsBodyOf f (setting_of g).schema body (setting_of g).arguments (setting_of g).first → is_of f.schema → RunFits f.schema f.txn ran
 
 -- the same of a transaction of an application
 pub record FitsWhereRunnable (is_of : List Declaration → Type 0) (app : App) (txn : ℕ) (args : List Arg) (ran : Ran) : Type 0 where

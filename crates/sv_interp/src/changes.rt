@@ -2,12 +2,12 @@ ghost use Rattle.std.specs.Prelude.{◌≡◌, ◌<◌, ◌≤◌, ◌++◌, ◌
 ghost use Rattle.sv_app.specs.Schema.{declaration_of};
 ghost use Rattle.sv_app.specs.Tables.{Tables};
 ghost use Rattle.sv_app.specs.Trees.{sets_of};
-ghost use Rattle.sv_effect.specs.Run.{changed, row_with, updated, inserted, removed};
+ghost use Rattle.sv_effect.specs.Run.{changed, row_with, updated, inserted, drawn, removed};
 ghost use Rattle.sv_effect.specs.RunChanges.{kept_values, with_writes, stands};
 ghost use Rattle.sv_effect.specs.Overlays.{left_row, left_rows};
 ghost use Rattle.sv_interp.specs.Machine.{stand, flow_of};
 
-use crate::inserts::{in_order, inserts};
+use crate::inserts::{drawn_writes, in_order, inserts};
 use crate::settings::Spot;
 use crate::states::State;
 use crate::writes::{make_writes, sets_made};
@@ -146,6 +146,31 @@ pub fn insert_row(
         present: true,
     };
     change(state, &spot.place, Act::Insert, writes.items(), left)
+}
+
+/// Inserts a row under a drawn key, where none is kept, and gives the key to the variable.
+pub fn draw_row(
+    spot: &Spot<'_>,
+    var: u16,
+    vals: &[Val],
+    row: Option<LeftRow>,
+    state: &mut State,
+) -> Result<Option<Outcome>, NoMemory>
+    ensures { IfOk result (λ end. (t : Tables) → drawn var (declaration_of spot.now.table.now) spot.now.place vals.now
+        (left_rows row) (stand t state.old) ≡ flow_of end (stand t state.new)) }
+{
+    if row.is_some() {
+        return Ok(Some(Outcome::Exists));
+    }
+    let writes = drawn_writes(spot.alloc, spot.table, 0, &spot.table.columns, vals)?;
+    let zeros = zeros(spot.alloc, spot.table, &spot.place.key)?;
+    let values = with_writes(zeros, writes.items())?;
+    let left = LeftRow {
+        values,
+        present: true,
+    };
+    state.draw(var, &spot.place.key.first)?;
+    change(state, &spot.place, Act::Fresh, writes.items(), left)
 }
 
 /// Removes a row: it is kept, and no longer present.

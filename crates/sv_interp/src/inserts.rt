@@ -7,7 +7,8 @@ ghost use Rattle.sv_app.specs.Trees.{terms_of};
 ghost use Rattle.sv_app.specs.Kinds.{is_grow_only};
 ghost use Rattle.sv_effect.specs.BareTables.{got_of};
 ghost use Rattle.sv_effect.specs.RowChange.{zero_of, key_values, from_key, values_from, zero_values};
-ghost use Rattle.sv_effect.specs.RunChanges.{writes_at, in_order, kept_to, insert_of, inserts, key_of, key_in, second_of};
+ghost use Rattle.sv_effect.specs.RunChanges.{writes_at, in_order, kept_to, insert_of, inserts};
+ghost use Rattle.sv_effect.specs.RunChanges.{first_write, outside_key, writes_of_columns, key_of, key_in, second_of};
 ghost use Rattle.sv_effect.specs.RunValues.{column, val_of, nothing, values_of};
 ghost use Rattle.sv_effect.specs.TablesOfCut.{number_in};
 ghost use Rattle.sv_interp.specs.Machine.{scope_of, evaluated, listed};
@@ -174,7 +175,7 @@ fn insert_of(
                 kept_to(val, kept, scope)
             }
         }
-        Merge::Plain | Merge::Lww => Ok(Some(Write::Set(*val))),
+        Merge::Plain | Merge::Lww | Merge::Fresh => Ok(Some(Write::Set(*val))),
     }
 }
 
@@ -219,6 +220,46 @@ pub fn inserts(
                 return Ok(None);
             };
             Ok(Some(prepend((number, write), writes)?))
+        }
+    }
+}
+
+/// What a value writes into a row that wasn't there.
+fn first_write(merge: Merge, val: &Val) -> Write
+    ensures { result ≡ first_write merge val.now }
+{
+    match merge {
+        Merge::NumDelta => Write::Delta(number_in(val)),
+        Merge::Plain | Merge::Lww | Merge::Fresh => Write::Set(*val),
+    }
+}
+
+/// The writes of a row whose key is drawn, to the columns but the key from one on: a value for each.
+pub fn drawn_writes(
+    alloc: Global,
+    table: &Table,
+    number: u16,
+    columns: &[Column],
+    vals: &[Val],
+) -> Result<List<(u16, Write)>, NoMemory>
+    requires { number + length columns.now ≤ 16 }
+    ensures writes { IfOk result (λ ws. ws ≡ writes_of_columns (outside_key (declaration_of table.now) number
+        columns.now) vals.now) }
+    ensures few { IfOk result (λ ws. length ws ≤ length columns.now) }
+{
+    match columns {
+        [] => Ok(List::new(alloc)),
+        [column, rest @ ..] => {
+            if is_key_column(&table.key, number) {
+                return drawn_writes(alloc, table, number + 1, rest, vals);
+            }
+            match vals {
+                [] => Ok(List::new(alloc)),
+                [val, later @ ..] => {
+                    let writes = drawn_writes(alloc, table, number + 1, rest, later)?;
+                    prepend((number, first_write(column.merge, val)), writes)
+                }
+            }
         }
     }
 }

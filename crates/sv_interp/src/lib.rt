@@ -5,6 +5,7 @@ mod changes;
 mod inserts;
 mod keys;
 mod loops;
+mod made;
 mod needs;
 mod runs;
 mod scopes;

@@ -101,7 +101,8 @@ fn put_assigned_by(vars: &mut List<u16>, stmt: &Stmt) -> Result<(), NoMemory>
             put_assigned(vars, body)?;
             Ok(())
         }
-        Parts::Let { .. } | Parts::Get { .. } | Parts::Insert { .. } => Ok(()),
+        Parts::Let { .. } | Parts::Get { .. } => Ok(()),
+        Parts::Insert { .. } | Parts::Fresh { .. } => Ok(()),
         Parts::Update { .. } | Parts::Remove { .. } => Ok(()),
         Parts::Abort { .. } | Parts::Reply(_) => Ok(()),
     }
@@ -145,7 +146,8 @@ fn put_loops_of(vars: &mut Vec<u16>, stmt: &Stmt) -> Result<(), NoMemory>
             Ok(())
         }
         Parts::Let { .. } | Parts::Assign { .. } | Parts::Get { .. } => Ok(()),
-        Parts::Insert { .. } | Parts::Update { .. } | Parts::Remove { .. } => Ok(()),
+        Parts::Insert { .. } | Parts::Fresh { .. } => Ok(()),
+        Parts::Update { .. } | Parts::Remove { .. } => Ok(()),
         Parts::Abort { .. } | Parts::Reply(_) => Ok(()),
     }
 }

@@ -30,7 +30,7 @@ fn is_insert(act: Act) -> bool
     ensures { result ≡ is_insert act }
 {
     match act {
-        Act::Insert => true,
+        Act::Insert | Act::Fresh => true,
         Act::Update | Act::Remove => false,
     }
 }

@@ -8,8 +8,10 @@ ghost use Rattle.sv_interp.specs.Turning.{turn_in};
 
 use crate::loops::split;
 use crate::scopes::Progress;
-use crate::settings::{Selection, Setting, Target, Turn};
-use crate::statements::{run_get, run_insert, run_let, run_remove, run_reply, run_update};
+use crate::settings::{Draw, Selection, Setting, Target, Turn};
+use crate::statements::{
+    run_fresh, run_get, run_insert, run_let, run_remove, run_reply, run_update,
+};
 use crate::states::State;
 use crate::turns::{begin_turn, item_turns, row_turns};
 use crate::values::truth;
@@ -106,6 +108,11 @@ fn run_one<R: Rows>(
         }
         Parts::Insert { table, values } => {
             let end = run_insert(setting, table, values, state, rows)?;
+            Ok(end)
+        }
+        Parts::Fresh { var, table, values } => {
+            let draw = Draw { var, table, values };
+            let end = run_fresh(setting, &draw, state, rows)?;
             Ok(end)
         }
         Parts::Update { table, key, sets } => {

@@ -3,17 +3,18 @@ ghost use Rattle.sv_value.specs.declared.values.Val.TheVariants.{Int};
 ghost use Rattle.std.specs.FinMap.{get};
 ghost use Rattle.sv_app.specs.Schema.{declaration_of, schema_of};
 ghost use Rattle.sv_app.specs.Tables.{Tables};
-ghost use Rattle.sv_app.specs.Trees.{term_of, terms_of, sets_of, Declare, Fetch, Insert, Update, Remove, Reply};
+ghost use Rattle.sv_app.specs.Trees.{term_of, terms_of, sets_of, Declare, Fetch, Insert, Fresh, Update, Remove, Reply};
 ghost use Rattle.sv_app.specs.Units.{unit_of};
 ghost use Rattle.sv_effect.specs.Asked.{Asked};
-ghost use Rattle.sv_effect.specs.Run.{items_of, run_command, on_present, inserted, updated, Setting as RunSetting};
+ghost use Rattle.sv_effect.specs.Run.{items_of, run_command, on_present, Setting as RunSetting};
+ghost use Rattle.sv_effect.specs.Run.{inserted, drawn, updated};
 ghost use Rattle.sv_interp.specs.Keeping.{Statement, Keeps, LooksUp};
 ghost use Rattle.sv_interp.specs.Machine.{declared, stand, flow_of, setting_of, RunsOn};
 
-use crate::changes::{insert_row, remove_row, update_row};
+use crate::changes::{draw_row, insert_row, remove_row, update_row};
 use crate::inserts::{key_in, key_of, values};
 use crate::loops::unit_of;
-use crate::settings::{Setting, Spot, Target};
+use crate::settings::{Draw, Setting, Spot, Target};
 use crate::states::State;
 use crate::values::value;
 use std::alloc::Global;
@@ -143,6 +144,60 @@ pub fn run_insert<R: Rows>(
         },
     };
     let end = insert_at(&spot, vals.items(), state, rows)?;
+    Ok(end)
+}
+
+#[tactic(auto, using(crate::proofs::RunLaws::steps, crate::proofs::KeepLaws::steps))]
+fn draw_at<R: Rows>(
+    spot: &Spot<'_>,
+    var: u16,
+    vals: &[Val],
+    state: &mut State,
+    rows: &mut R,
+) -> Result<Option<Outcome>, Halt>
+    ensures ran { IfOk result (λ end. RunsOn R.face R.noted rows.old rows.new
+        (λ st. drawn var (declaration_of spot.now.table.now) spot.now.place vals.now
+        (get st.tables spot.now.place) st) state.old end state.new) }
+    ensures kept { IfOk result (λ end. LooksUp (R.is_of rows.old) spot.now.place
+        (λ row st. drawn var (declaration_of spot.now.table.now) spot.now.place vals.now row st) state.old end
+        state.new) }
+    ensures asked { Asked R.stays R.face rows.old rows.new result }
+{
+    let found = look(spot.alloc, &state.own, rows, &spot.place)?;
+    let end = draw_row(spot, var, vals, found, state)?;
+    Ok(end)
+}
+
+/// Inserts a row under a drawn key, where none is kept, and gives the key to a variable.
+#[tactic(auto, using(crate::proofs::RunLaws::steps, crate::proofs::KeepLaws::steps))]
+pub fn run_fresh<R: Rows>(
+    setting: &Setting<'_>,
+    draw: &Draw<'_>,
+    state: &mut State,
+    rows: &mut R,
+) -> Result<Option<Outcome>, Halt>
+    ensures ran { IfOk result (λ end. RunsOn R.face R.noted rows.old rows.new
+        (run_command (setting_of setting.now) (Fresh draw.now.var draw.now.table
+        (terms_of draw.now.values.now))) state.old end state.new) }
+    ensures kept { IfOk result (λ end. Keeps (R.is_of rows.old) (setting_of setting.now)
+        (Statement (Fresh draw.now.var draw.now.table (terms_of draw.now.values.now))) state.old end state.new) }
+    ensures asked { Asked R.stays R.face rows.old rows.new result }
+{
+    let Some(vals) = values(setting.alloc, draw.values, &mut state.scope)? else {
+        return Ok(Some(Outcome::Range));
+    };
+    let Some(declared) = table_at(setting, draw.table.num) else {
+        return Ok(Some(Outcome::NoRow));
+    };
+    let spot = Spot {
+        alloc: setting.alloc,
+        table: declared,
+        place: Place {
+            table: draw.table.num,
+            key: state.effects.next_key(setting.first),
+        },
+    };
+    let end = draw_at(&spot, draw.var.num, vals.items(), state, rows)?;
     Ok(end)
 }
 

@@ -1,10 +1,12 @@
 ghost use Rattle.std.specs.Prelude.{◌≡◌, ◌++◌, ◌∷◌, [], ℕ, OnOk, IfOk, Some, None, map, suc, length};
 ghost use Rattle.sv_app.specs.Trees.{block_of};
 ghost use Rattle.sv_app.specs.Tables.{Tables};
-ghost use Rattle.sv_effect.specs.Run.{Goes, assigned, with_row, with_scope, with_value, changed, row_with, updating, update_over, replied, beginning, instance_of, begun, closed, left_loop};
+ghost use Rattle.sv_effect.specs.Run.{Goes, assigned, with_row, with_scope, with_value, with_symbol, changed, row_with};
+ghost use Rattle.sv_effect.specs.Run.{updating, update_over, replied, beginning, instance_of, begun, closed, left_loop};
 ghost use Rattle.sv_interp.specs.Machine.{progress_of, scope_of, stand, flow_of};
 
 use crate::loops::{known_after, put_assigned};
+use crate::made::Made;
 use crate::scopes::{Progress, Scope};
 use crate::slots::{put_row, put_value};
 use arrayvec::ArrayVec;
@@ -12,7 +14,7 @@ use std::alloc::Global;
 use std::mem::replace;
 use sv_app::limits::MOST_REPLIES;
 use sv_app::{Act, Got, Instance, Place, Source, Stmt};
-use sv_effect::{LeftRow, Outcome, RowEffect, Write};
+use sv_effect::{LeftRow, Outcome, Write};
 use sv_value::{List, NoMemory, Val};
 
 /// An instance of a unit, in which nothing was done yet.
@@ -45,7 +47,7 @@ pub fn instance_of(progress: Progress) -> Instance
 pub struct State {
     pub scope: Scope,
     pub own: Vec<(Place, LeftRow)>,
-    pub effects: List<RowEffect>,
+    pub effects: Made,
     pub replies: List<Val>,
     pub instances: List<Instance>,
 }
@@ -57,6 +59,17 @@ impl State {
     {
         put_value(&mut self.scope.values, var, val)?;
         self.scope.progress.known.push(Source::Variable(var))?;
+        Ok(())
+    }
+
+    /// Gives a variable a drawn key, which is a symbol of its own, brought in last.
+    pub fn draw(&mut self, var: u16, key: &Val) -> Result<(), NoMemory>
+        ensures drawn { OnOk result ((t : Tables) → stand t self.new
+            ≡ assigned var key.now (with_symbol key.now (stand t self.old))) }
+        ensures number { OnOk result (self.new.scope.progress.number ≡ self.old.scope.progress.number) }
+    {
+        self.scope.progress.put(key)?;
+        self.set(var, key)?;
         Ok(())
     }
 

@@ -1,4 +1,4 @@
-ghost use Rattle.std.specs.Prelude.{◌≡◌, ◌<◌, ◌^◌, length, IfOk, List as Items, map, slice_get};
+ghost use Rattle.std.specs.Prelude.{◌≡◌, ◌<◌, ◌≤ℤ◌, ◌^◌, pos, length, IfOk, List as Items, map, slice_get};
 ghost use Rattle.sv_app.specs.Accepted.{AcceptedApp};
 ghost use Rattle.sv_app.specs.Schema.{Declaration, schema_of};
 ghost use Rattle.sv_app.specs.Tables.{Tables};
@@ -14,6 +14,7 @@ ghost use Rattle.sv_interp.specs.Results.{IsRunOf, IsRunOfBody, BodyFits, FitsWh
 ghost use Rattle.sv_interp.specs.Results.{IsEmptyUnlessDone};
 
 use crate::loops::put_loops;
+use crate::made::Made;
 use crate::needs::needs;
 use crate::runs::run_all;
 use crate::scopes::Scope;
@@ -57,7 +58,7 @@ fn start(alloc: Global, args: &[Arg]) -> Result<State, NoMemory>
     Ok(State {
         scope,
         own: Vec::new(alloc),
-        effects: List::new(alloc),
+        effects: Made::none(alloc),
         replies: List::new(alloc),
         instances: List::new(alloc),
     })
@@ -80,6 +81,7 @@ fn finish(alloc: Global, tables: &[Table], state: State) -> Result<Ran, NoMemory
     if instances.len() >= 4_294_967_295 {
         return Err(NoMemory);
     }
+    let effects = effects.into_list();
     let needs = needs(alloc, tables, effects.items())?;
     let trace = prepend(instance_of(scope.progress), instances)?;
     Ok(Ran {
@@ -138,21 +140,24 @@ fn body_of(app: &App, number: u16) -> &[Stmt]
     }
 }
 
-/// Runs the transaction of that number with these arguments, on rows that it asks for. What it comes to is what the run
-/// comes to on whole tables, on all tables that agree with what the rows answered; and it halts for a missing answer
-/// only where the rows don't know it. Whatever the rows answered, a run that isn't done has no changes, needs or
-/// instances; and where the rows are of the application, this was accepted and the arguments fit, each instance of the
-/// trace is shaped, and there are at most 64 changes, each of which fits the schema. There are fewer than 2^32 instances;
-/// a run that would have more is told as want of memory.
+/// Runs the transaction of that number with these arguments, on rows that it asks for; `first` is the first key that
+/// it draws. What it comes to is what the run comes to on whole tables, on all tables that agree with what the rows
+/// answered; and it halts for a missing answer only where the rows don't know it. Whatever the rows answered, a run
+/// that isn't done has no changes, needs or instances; and where the rows are of the application, this was accepted
+/// and the arguments fit, each instance of the trace is shaped, and there are at most 64 changes, each of which fits
+/// the schema. There are fewer than 2^32 instances; a run that would have more is told as want of memory.
 pub fn run_txn<R: Rows>(
     alloc: Global,
     app: &App,
     txn: u16,
     args: &[Arg],
+    first: i64,
     rows: &mut R,
 ) -> Result<Ran, Halt>
     requires accepted { AcceptedApp (schema_of app.now.tables.items) (transactions_of app.now.txns.items) }
-    ensures followed { IfOk result (λ ran. Learns R.face R.noted rows.old rows.new (IsRunOf app.now txn args.now ran)) }
+    requires first { first ≤ℤ pos 9223372036854775743 }
+    ensures followed { IfOk result (λ ran. Learns R.face R.noted rows.old rows.new
+        (IsRunOf app.now txn args.now first ran)) }
     ensures asked { Asked R.stays R.face rows.old rows.new result }
     ensures empty { IfOk result IsEmptyUnlessDone }
     ensures fits { IfOk result (FitsWhereRunnable (R.is_of rows.old) app.now txn args.now) }
@@ -165,6 +170,7 @@ pub fn run_txn<R: Rows>(
         alloc,
         tables: &app.tables,
         args,
+        first,
         loops: loops.as_slice(),
     };
     let ran = run_body(&setting, body, rows)?;
@@ -178,11 +184,13 @@ pub fn run_noted<R: Rows>(
     app: &App,
     txn: u16,
     args: &[Arg],
+    first: i64,
     rows: &mut R,
 ) -> Result<(Ran, Vec<Read>), Halt>
     requires accepted { AcceptedApp (schema_of app.now.tables.items) (transactions_of app.now.txns.items) }
+    requires first { first ≤ℤ pos 9223372036854775743 }
     ensures ran { IfOk result (λ end. (t : Tables) → Agrees t (map read_of end.1.items)
-        → IsRunOf app.now txn args.now end.0 t) }
+        → IsRunOf app.now txn args.now first end.0 t) }
     ensures honest { IfOk result (λ end. TableAgrees (R.face rows.old).tables (map read_of end.1.items)) }
     ensures few { IfOk result (λ end. length end.1.items < 2 ^ 32) }
     ensures asked { Asked R.stays R.face rows.old rows.new result }
@@ -191,7 +199,7 @@ pub fn run_noted<R: Rows>(
     ensures instances { IfOk result (λ end. length end.0.trace < 2 ^ 32) }
 {
     let mut noted = Noted::new(alloc, rows);
-    let end = run_txn(alloc, app, txn, args, &mut noted);
+    let end = run_txn(alloc, app, txn, args, first, &mut noted);
     let reads = noted.into_reads();
     let ran = end?;
     Ok((ran, reads))

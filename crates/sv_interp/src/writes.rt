@@ -66,7 +66,7 @@ fn set_of(merge: Merge, col: u16, val: &Val, scope: &mut Scope) -> Result<Option
             };
             Ok(delta_to(val, &old))
         }
-        Merge::Plain | Merge::Lww => Ok(Some(Write::Set(*val))),
+        Merge::Plain | Merge::Lww | Merge::Fresh => Ok(Some(Write::Set(*val))),
     }
 }
 

@@ -1,4 +1,5 @@
-use Rattle.std.proofs.Common.{◌≡◌, refl, ap, rules}
+use Rattle.std.proofs.Common.{◌≡◌, ◌≤ℤ◌, pos, w64, refl, sym, ap, subst, rules}
+use Rattle.std.proofs.lemmas.Int.{to_z-of_z}
 use Rattle.sv_app.specs.Schema.{schema_of}
 use Rattle.sv_app.specs.Trees.{block_of, transactions_of}
 use Rattle.sv_app.specs.Units.{loop_variables}
@@ -9,7 +10,7 @@ use Rattle.sv_interp.proofs.txns.run_txn.Goals as goal
 
 pub returns-clause-fits : goal.returns-clause-fits
 returns-clause-fits g c = record {
-  fits = λ transaction run is. body_fits _ (schema_of c.args.app.now.tables.items) (transactions_of c.args.app.now.txns.items) (request_of c.args.txn c.args.args.now) transaction (schema_of c.deref.result.now) (block_of c.body_of-body.result.now) c.args.args.now c.in_ok-ran.ran
+  fits = λ transaction run is. body_fits _ (schema_of c.args.app.now.tables.items) (transactions_of c.args.app.now.txns.items) (request_of c.args.txn c.args.args.now) transaction (schema_of c.deref.result.now) (block_of c.body_of-body.result.now) c.args.args.now _ c.in_ok-ran.ran
       run (ap schema_of c.deref.ensures.value) c.body_of-body.ensures refl c.in_ok-ran.ensures.fits is;
 }
 
@@ -19,4 +20,5 @@ invariant_of-setting g c =
     record {
       narrow = accepted_narrow (schema_of c.args.app.now.tables.items) (schema_of c.deref.result.now) (transactions_of c.args.app.now.txns.items) c.requires.accepted (ap schema_of c.deref.ensures.value);
       few = accepted_few (schema_of c.args.app.now.tables.items) (transactions_of c.args.app.now.txns.items) c.args.txn (block_of c.body_of-body.result.now) c.as_slice.result.now c.requires.accepted c.body_of-body.ensures loops;
+      room = subst (λ n. n ≤ℤ pos 9223372036854775743) (sym (to_z-of_z w64 c.args.first c.ranges.first)) c.requires.first;
     }
