@@ -1,12 +1,12 @@
 //! Cases as texts: an application, initial rows and a request.
-ghost use Rattle.std.specs.Prelude.{◌≡◌, ◌≤◌, IfOk, length};
+ghost use Rattle.std.specs.Prelude.{◌≤◌, IfOk, length};
 ghost use Rattle.sv_app.specs.Accepted.{AcceptedApp, AcceptedSchema};
 ghost use Rattle.sv_app.specs.Conditions.{KeepsGrammar, KeepsLimits, AreNumbered};
 ghost use Rattle.sv_app.specs.Schema.{schema_of};
 ghost use Rattle.sv_app.specs.Trees.{transactions_of};
 ghost use Rattle.sv_effect.specs.RowsFit.{TablesAreOf};
+ghost use Rattle.sv_trials.specs.Standing.{CanStand};
 
-use crate::fitting::{check_all, check_distinct};
 use crate::troubles::Trouble;
 use std::alloc::Global;
 use sv_app::{App, InitRow, Request, Table};
@@ -15,7 +15,7 @@ use sv_schema_reader::read_schema;
 use sv_store::ListStore;
 use sv_txn_reader::read_txns;
 use sv_typing::accept;
-use sv_value::{List, Spot};
+use sv_value::{List, NoMemory, Spot};
 use sv_workload::{Parts, Step, Work, read_parts};
 
 /// The most bytes of a document.
@@ -65,9 +65,11 @@ fn application(alloc: Global, tokens: &[Token], end: Spot) -> Result<(App, usize
 }
 
 /// What stands behind the application.
+#[tactic(auto, using(crate::proofs::FitLaws::can_stand))]
 fn parts(alloc: Global, app: &App, tokens: &[Token], end: Spot, at: usize) -> Result<Parts, Trouble>
     requires accepted { AcceptedApp (schema_of app.now.tables.items) (transactions_of app.now.txns.items) }
     requires place { at ≤ length tokens.now }
+    ensures { IfOk result (λ parts. CanStand (schema_of app.now.tables.items) parts.init) }
 {
     match read_parts(alloc, app, tokens, end, at) {
         Ok(parts) => Ok(parts),
@@ -91,6 +93,7 @@ fn first_request(work: Work) -> Result<Request, Trouble> {
 pub fn trial_of(alloc: Global, document: &[u8]) -> Result<Trial, Trouble>
     ensures whole { IfOk result (λ trial. AcceptedApp (schema_of trial.app.tables.items) (transactions_of trial.app.txns.items)) }
     ensures tables { IfOk result (λ trial. AcceptedSchema (schema_of trial.app.tables.items)) }
+    ensures rows { IfOk result (λ trial. CanStand (schema_of trial.app.tables.items) trial.init) }
 {
     if document.len() > MOST_BYTES {
         return Err(Trouble::Wrong("a long document"));
@@ -106,14 +109,11 @@ pub fn trial_of(alloc: Global, document: &[u8]) -> Result<Trial, Trouble>
 }
 
 /// A store of the initial rows.
-pub fn store(alloc: Global, app: &App, init: &[InitRow]) -> Result<ListStore, Trouble>
-    requires { AcceptedSchema (schema_of app.now.tables.items) }
+#[tactic(auto, using(crate::proofs::FitLaws::standing))]
+pub fn store(alloc: Global, app: &App, init: &[InitRow]) -> Result<ListStore, NoMemory>
+    requires tables { AcceptedSchema (schema_of app.now.tables.items) }
+    requires rows { CanStand (schema_of app.now.tables.items) init.now }
     ensures { IfOk result (λ store. TablesAreOf (schema_of app.now.tables.items) store.tables) }
 {
-    check_all(&app.tables, init)?;
-    check_distinct(init)?;
-    if init.len() > 4_096 {
-        return Err(Trouble::Wrong("many rows"));
-    }
-    Ok(ListStore::start(alloc, app, init, 0)?)
+    ListStore::start(alloc, app, init, 0)
 }

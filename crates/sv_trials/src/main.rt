@@ -1,6 +1,7 @@
 //! Runs and verdicts beside plain programs, by the cases of standard input. A case's document has tables, transactions,
-//! initial rows and the head of a replay; its command is `run` or `verdict` and the call of a transaction. A run's line
-//! is what the run comes to; a verdict's line is which invariant is broken first after its changes, and at which key.
+//! initial rows and the head of a replay; its command is `run` or `verdict` and the call of a transaction, with
+//! `from NUMBER` in front where the run draws its keys from that number on. A run's line is what the run comes to; a
+//! verdict's line is which invariant is broken first after its changes, and at which key.
 //! Where the plain program and the call on a store, or on a store whose reads are noted, come to different things, each
 //! has a line. Standard output tells how many cases there are, and which of them come out otherwise.
 #![tactic(auto)]

@@ -1,6 +1,6 @@
 //! What a run means, as a plain program: it works on a list of rows of its own, and asks for none.
 use crate::halts::{End, Halted};
-use crate::plain_changes::{insert, present_row, remove, update};
+use crate::plain_changes::{fresh, insert, present_row, remove, update};
 use crate::plain_needs::needs;
 use crate::plain_rows::{PlainRow, copied, find_present, present_keys};
 use crate::plain_states::{Machine, Progress};
@@ -271,6 +271,16 @@ fn run_simple(
                 values,
             )
         }
+        Parts::Fresh { var, table, values } => {
+            fresh(
+                alloc,
+                machine,
+                table_of(tables, table.num)?,
+                table.num,
+                var.num,
+                values,
+            )
+        }
         Parts::Update { table, key, sets } => {
             update(
                 alloc,
@@ -348,8 +358,15 @@ fn take(alloc: Global, machine: &mut Machine, number: u16, arg: &Arg) -> Result<
 }
 
 /// Where a run begins.
-fn start(alloc: Global, txn: &Txn, args: &[Arg], rows: &[PlainRow]) -> Result<Machine, NoMemory> {
+fn start(
+    alloc: Global,
+    txn: &Txn,
+    args: &[Arg],
+    first: i64,
+    rows: &[PlainRow],
+) -> Result<Machine, NoMemory> {
     let mut machine = Machine {
+        first,
         rows: copied(alloc, rows)?,
         variables: Vec::new(alloc),
         bound: Vec::new(alloc),
@@ -419,15 +436,16 @@ fn ended(alloc: Global, end: End) -> PlainRun {
     }
 }
 
-/// Runs the transaction of a request on a copy of the rows.
+/// Runs the transaction of a request, with this first key, on a copy of the rows.
 pub fn run(
     alloc: Global,
     app: &App,
     request: &Request,
+    first: i64,
     rows: &[PlainRow],
 ) -> Result<PlainRun, NoMemory> {
     let txn = app.txns.get(request.txn as usize).ok_or(NoMemory)?;
-    let mut machine = start(alloc, txn, request.args.items(), rows)?;
+    let mut machine = start(alloc, txn, request.args.items(), first, rows)?;
     match run_block(alloc, &app.tables, &txn.body, &mut machine, &txn.body) {
         Ok(()) => done(alloc, &app.tables, machine),
         Err(Halted::Ended(end)) => Ok(ended(alloc, end)),

@@ -220,6 +220,77 @@ pub fn insert(
     change(machine, Act::Insert, row, &writes)
 }
 
+/// The next key that is drawn: the first, and one more for each key that the run drew.
+fn next_key(machine: &Machine) -> Result<Val, Halted> {
+    let mut key = machine.first;
+    for effect in machine.effects.items() {
+        if effect.act == Act::Fresh {
+            key = key.checked_add(1).ok_or(Halted::NoMemory)?;
+        }
+    }
+    Ok(Val::Int(key))
+}
+
+/// The values of all columns: the key in its own, and these in the others.
+fn with_key(alloc: Global, table: &Table, key: &Val, vals: &[Val]) -> Result<Vec<Val>, NoMemory> {
+    let mut whole = Vec::from_slice(alloc, vals)?;
+    let at = match table.key.as_slice() {
+        [name, ..] => name.num as usize,
+        [] => 0,
+    };
+    whole.insert(at.min(vals.len()), *key)?;
+    Ok(whole)
+}
+
+/// What is written into a row that wasn't there.
+fn first_writes(alloc: Global, table: &Table, vals: &[Val]) -> Result<Vec<(u16, Write)>, Halted> {
+    let mut writes = Vec::new(alloc);
+    for (at, column) in table.columns.iter().enumerate() {
+        let col = column_number(at)?;
+        if is_key_column(table, col) {
+            continue;
+        }
+        let val = val_at(vals, col);
+        if column.merge == Merge::NumDelta {
+            writes.push((col, Write::Delta(difference(&val, &Val::Int(0))?)))?;
+        } else {
+            writes.push((col, Write::Set(val)))?;
+        }
+    }
+    Ok(writes)
+}
+
+/// Inserts a row under the next key that is drawn, where none is kept, and gives the variable that key.
+pub fn fresh(
+    alloc: Global,
+    machine: &mut Machine,
+    table: &Table,
+    number: u16,
+    var: u16,
+    exprs: &[Expr],
+) -> Result<(), Halted> {
+    let given = values(alloc, machine, exprs)?;
+    let key = next_key(machine)?;
+    let place = Place {
+        table: number,
+        key: key_of(&[key]),
+    };
+    if find(&machine.rows, &place).is_some() {
+        return Err(Halted::Ended(End::Exists));
+    }
+    let vals = with_key(alloc, table, &key, &given)?;
+    let writes = first_writes(alloc, table, &vals)?;
+    let row = PlainRow {
+        place,
+        values: zero_values(alloc, table, &vals)?,
+        present: true,
+    };
+    change(machine, Act::Fresh, row, &writes)?;
+    machine.bring_new(&key)?;
+    machine.assign(var, key)?;
+    Ok(())
+}
+
 /// The row of the place, which has to be present.
 pub fn present_row(alloc: Global, machine: &Machine, place: &Place) -> Result<PlainRow, Halted> {
     match find_present(&machine.rows, place) {

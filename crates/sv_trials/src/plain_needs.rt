@@ -11,9 +11,19 @@ fn place_of(effect: &RowEffect) -> Place {
     }
 }
 
+/// Whether a change of that kind makes a row.
+fn is_insert(act: Act) -> bool {
+    match act {
+        Act::Insert => true,
+        Act::Fresh => true,
+        Act::Update => false,
+        Act::Remove => false,
+    }
+}
+
 fn insert_among(effects: &[RowEffect], place: &Place) -> bool {
     for effect in effects {
-        if effect.act == Act::Insert && place_of(effect) == *place {
+        if is_insert(effect.act) && place_of(effect) == *place {
             return true;
         }
     }
@@ -29,7 +39,7 @@ fn set_value(table: &Table, effect: &RowEffect, col: u16) -> Option<Val> {
             }
         }
     }
-    if effect.act != Act::Insert {
+    if !is_insert(effect.act) {
         return None;
     }
     match table.key.as_slice() {
@@ -105,7 +115,7 @@ pub fn needs(
     for (at, effect) in effects.iter().enumerate() {
         let earlier = &effects[..at];
         let place = place_of(effect);
-        if effect.act != Act::Insert && !insert_among(earlier, &place) {
+        if !is_insert(effect.act) && !insert_among(earlier, &place) {
             add(&mut needs, kept(&place))?;
         }
         add_references(&mut needs, tables, effects, effect)?;

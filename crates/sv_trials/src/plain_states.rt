@@ -40,11 +40,12 @@ impl Progress {
     }
 }
 
-/// A run that goes on: the rows, the values of variables and of row variables by their numbers, of which the first
-/// one counts, the lists, the row before the update, and what was made so far. A quiet run brings in no symbols and makes
-/// no choices.
+/// A run that goes on: the first key that it may draw, the rows, the values of variables and of row variables by their
+/// numbers, of which the first one counts, the lists, the row before the update, and what was made so far. A quiet run
+/// brings in no symbols and makes no choices.
 #[derive(Debug, Drop)]
 pub struct Machine {
+    pub first: i64,
     pub rows: Vec<PlainRow>,
     pub variables: Vec<(u16, Val)>,
     pub bound: Vec<(u16, Vec<Got>)>,

@@ -98,6 +98,7 @@ fn put_change(out: &mut Vec<u8>, app: &App, change: &RowEffect) -> Result<(), No
         out,
         match change.act {
             Act::Insert => b"; insert ",
+            Act::Fresh => b"; fresh ",
             Act::Update => b"; update ",
             Act::Remove => b"; remove ",
         },

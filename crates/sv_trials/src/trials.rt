@@ -1,10 +1,11 @@
 //! What each case comes to.
-ghost use Rattle.std.specs.Prelude.{◌≡◌, ◌≤◌, IfOk, length};
+ghost use Rattle.std.specs.Prelude.{◌≡◌, ◌≤◌, ◌≤ℤ◌, pos, IfOk, length};
 ghost use Rattle.sv_app.specs.Accepted.{AcceptedApp, AcceptedSchema};
 ghost use Rattle.sv_app.specs.Schema.{schema_of};
 ghost use Rattle.sv_app.specs.Trees.{transactions_of};
 ghost use Rattle.sv_effect.specs.Fits.{AllFit};
-ghost use Rattle.sv_trials.specs.Requests.{IsRequestOf};
+ghost use Rattle.sv_trials.specs.Standing.{CanStand};
+ghost use Rattle.sv_workload.specs.PartsFit.{IsRequestOf};
 
 use crate::documents::{Trial, store, trial_of};
 use crate::fitting::check_request;
@@ -15,12 +16,15 @@ use crate::plain_verdicts::judge;
 use crate::texts::{put_verdict, text_of};
 use crate::troubles::Trouble;
 use std::alloc::Global;
-use sv_app::{App, InitRow, Place, Request};
+use sv_app::{App, InitRow, Place, Request, first_key};
 use sv_cases::Case;
 use sv_check::{Verdict, check_after};
 use sv_effect::{Noted, Outcome, Ran, RowEffect, Rows};
 use sv_interp::run_txn;
 use sv_value::NoMemory;
+
+/// The greatest first key of a run: its 64 keys have 64 bits.
+const MOST_FIRST: i64 = 9_223_372_036_854_775_743;
 
 /// The initial rows, as the plain program has them.
 fn plain_rows(alloc: Global, init: &[InitRow]) -> Result<Vec<PlainRow>, NoMemory> {
@@ -43,9 +47,9 @@ fn plain_rows(alloc: Global, init: &[InitRow]) -> Result<Vec<PlainRow>, NoMemory
 }
 
 /// What the plain program comes to.
-fn plainly(alloc: Global, trial: &Trial) -> Result<PlainRun, NoMemory> {
+fn plainly(alloc: Global, trial: &Trial, first: i64) -> Result<PlainRun, NoMemory> {
     let rows = plain_rows(alloc, trial.init.items())?;
-    run(alloc, &trial.app, &trial.request, &rows)
+    run(alloc, &trial.app, &trial.request, first, &rows)
 }
 
 /// What the interpreter comes to on these rows.
@@ -53,24 +57,28 @@ fn interpreted<R: Rows>(
     alloc: Global,
     app: &App,
     request: &Request,
+    first: i64,
     rows: &mut R,
 ) -> Result<Ran, Trouble>
+    requires first { first ≤ℤ pos 9223372036854775743 }
     requires accepted { AcceptedApp (schema_of app.now.tables.items) (transactions_of app.now.txns.items) }
     requires request { IsRequestOf (transactions_of app.now.txns.items) request.now }
     requires rows { R.is_of rows.old (schema_of app.now.tables.items) }
     ensures fits { IfOk result (λ ran. AllFit (schema_of app.now.tables.items) ran.effects) }
     ensures few { IfOk result (λ ran. length ran.effects ≤ 64) }
 {
-    match run_txn(alloc, app, request.txn, request.args.items(), rows) {
+    match run_txn(alloc, app, request.txn, request.args.items(), first, rows) {
         Ok(ran) => Ok(ran),
         Err(_) => Err(Trouble::Wrong("the interpreter halted")),
     }
 }
 
 /// The interpreter on a store of the initial rows, whose reads are noted or not.
-fn on_store(alloc: Global, trial: &Trial, noted: bool) -> Result<Ran, Trouble>
+fn on_store(alloc: Global, trial: &Trial, first: i64, noted: bool) -> Result<Ran, Trouble>
+    requires first { first ≤ℤ pos 9223372036854775743 }
     requires whole { AcceptedApp (schema_of trial.now.app.tables.items) (transactions_of trial.now.app.txns.items) }
     requires tables { AcceptedSchema (schema_of trial.now.app.tables.items) }
+    requires rows { CanStand (schema_of trial.now.app.tables.items) trial.now.init }
     ensures fits { IfOk result (λ ran. AllFit (schema_of trial.now.app.tables.items) ran.effects) }
     ensures few { IfOk result (λ ran. length ran.effects ≤ 64) }
 {
@@ -78,9 +86,15 @@ fn on_store(alloc: Global, trial: &Trial, noted: bool) -> Result<Ran, Trouble>
     check_request(&app.txns, request)?;
     let mut store = store(alloc, app, init.items())?;
     if noted {
-        interpreted(alloc, app, request, &mut Noted::new(alloc, &mut store))
+        interpreted(
+            alloc,
+            app,
+            request,
+            first,
+            &mut Noted::new(alloc, &mut store),
+        )
     } else {
-        interpreted(alloc, app, request, &mut store)
+        interpreted(alloc, app, request, first, &mut store)
     }
 }
 
@@ -121,6 +135,7 @@ fn judged_by_notes<R: Rows>(
 /// The verdict on the changes of a run, over a store of the initial rows, whose reads are noted or not.
 fn verdict(alloc: Global, trial: &Trial, ran: &Ran, noted: bool) -> Result<Verdict, Trouble>
     requires tables { AcceptedSchema (schema_of trial.now.app.tables.items) }
+    requires rows { CanStand (schema_of trial.now.app.tables.items) trial.now.init }
     requires fits { AllFit (schema_of trial.now.app.tables.items) ran.now.effects }
     requires few { length ran.now.effects ≤ 64 }
 {
@@ -146,13 +161,15 @@ fn lines(alloc: Global, plain: &[u8], others: [&[u8]; 2]) -> Result<Vec<u8>, NoM
     Ok(lines)
 }
 
-fn run_lines(alloc: Global, trial: &Trial) -> Result<Vec<u8>, Trouble>
+fn run_lines(alloc: Global, trial: &Trial, first: i64) -> Result<Vec<u8>, Trouble>
+    requires first { first ≤ℤ pos 9223372036854775743 }
     requires whole { AcceptedApp (schema_of trial.now.app.tables.items) (transactions_of trial.now.app.txns.items) }
     requires tables { AcceptedSchema (schema_of trial.now.app.tables.items) }
+    requires rows { CanStand (schema_of trial.now.app.tables.items) trial.now.init }
 {
-    let plain = text_of(alloc, &trial.app, &plainly(alloc, trial)?.ran)?;
-    let stored = text_of(alloc, &trial.app, &on_store(alloc, trial, false)?)?;
-    let noted = text_of(alloc, &trial.app, &on_store(alloc, trial, true)?)?;
+    let plain = text_of(alloc, &trial.app, &plainly(alloc, trial, first)?.ran)?;
+    let stored = text_of(alloc, &trial.app, &on_store(alloc, trial, first, false)?)?;
+    let noted = text_of(alloc, &trial.app, &on_store(alloc, trial, first, true)?)?;
     Ok(lines(alloc, &plain, [&stored, &noted])?)
 }
 
@@ -165,6 +182,7 @@ fn verdict_text(alloc: Global, verdict: &Verdict) -> Result<Vec<u8>, NoMemory> {
 /// The text of the verdict.
 fn verdict_told(alloc: Global, trial: &Trial, ran: &Ran, noted: bool) -> Result<Vec<u8>, Trouble>
     requires tables { AcceptedSchema (schema_of trial.now.app.tables.items) }
+    requires rows { CanStand (schema_of trial.now.app.tables.items) trial.now.init }
     requires fits { AllFit (schema_of trial.now.app.tables.items) ran.now.effects }
     requires few { length ran.now.effects ≤ 64 }
 {
@@ -174,16 +192,18 @@ fn verdict_told(alloc: Global, trial: &Trial, ran: &Ran, noted: bool) -> Result<
     }
 }
 
-fn verdict_lines(alloc: Global, trial: &Trial) -> Result<Vec<u8>, Trouble>
+fn verdict_lines(alloc: Global, trial: &Trial, first: i64) -> Result<Vec<u8>, Trouble>
+    requires first { first ≤ℤ pos 9223372036854775743 }
     requires whole { AcceptedApp (schema_of trial.now.app.tables.items) (transactions_of trial.now.app.txns.items) }
     requires tables { AcceptedSchema (schema_of trial.now.app.tables.items) }
+    requires rows { CanStand (schema_of trial.now.app.tables.items) trial.now.init }
 {
-    let ended = plainly(alloc, trial)?;
+    let ended = plainly(alloc, trial, first)?;
     let Outcome::Done(_) = ended.ran.outcome else {
         return Err(Trouble::Wrong("the run isn't done"));
     };
     let plain = verdict_text(alloc, &judge(&trial.app, &ended.rows))?;
-    let ran = on_store(alloc, trial, false)?;
+    let ran = on_store(alloc, trial, first, false)?;
     let stored = verdict_told(alloc, trial, &ran, false)?;
     let noted = verdict_told(alloc, trial, &ran, true)?;
     Ok(lines(alloc, &plain, [&stored, &noted])?)
@@ -198,16 +218,48 @@ fn document_of(alloc: Global, case: &Case, call: &str) -> Result<Vec<u8>, NoMemo
     Ok(document)
 }
 
-fn try_case(alloc: Global, case: &Case) -> Result<Vec<u8>, Trouble> {
-    let Some((what, call)) = case.command.split_once(' ') else {
+/// The number that these digits write.
+fn number_of(digits: &str) -> Result<i64, Trouble> {
+    let mut number: i64 = 0;
+    for digit in digits.as_bytes() {
+        if *digit < b'0' || *digit > b'9' {
+            return Err(Trouble::Wrong("no number"));
+        }
+        let shifted = number
+            .checked_mul(10)
+            .ok_or(Trouble::Wrong("a large number"))?;
+        number = shifted
+            .checked_add((*digit - b'0') as i64)
+            .ok_or(Trouble::Wrong("a large number"))?;
+    }
+    Ok(number)
+}
+
+/// Tries a command on its call, with this first key.
+fn try_command(alloc: Global, case: &Case, first: i64, command: &str) -> Result<Vec<u8>, Trouble> {
+    if first > MOST_FIRST {
+        return Err(Trouble::Wrong("a large first key"));
+    }
+    let Some((what, call)) = command.split_once(' ') else {
         return Err(Trouble::Wrong("no call"));
     };
     let trial = trial_of(alloc, &document_of(alloc, case, call)?)?;
     match what {
-        "run" => run_lines(alloc, &trial),
-        "verdict" => verdict_lines(alloc, &trial),
+        "run" => run_lines(alloc, &trial, first),
+        "verdict" => verdict_lines(alloc, &trial, first),
         _ => Err(Trouble::Wrong("no such command")),
     }
+}
+
+/// Tries a case, from the first key that its command gives, or else from that of the first request of the first session.
+fn try_case(alloc: Global, case: &Case) -> Result<Vec<u8>, Trouble> {
+    let Some(("from", rest)) = case.command.split_once(' ') else {
+        return try_command(alloc, case, first_key(1, 0), case.command.as_str());
+    };
+    let Some((digits, command)) = rest.split_once(' ') else {
+        return Err(Trouble::Wrong("no command"));
+    };
+    try_command(alloc, case, number_of(digits)?, command)
 }
 
 /// The lines of a case, or what is wrong with it.
