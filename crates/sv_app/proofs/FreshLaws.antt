@@ -70,7 +70,7 @@ only_name (name ∷ second ∷ key) column once some all =
     let again : is_named second name ≡ true = (bytes_eq-Decides second.name name.name).1 (two ∙ sym one) in
     let seconds : List Refusal = flat_map (λ later. fault_if (is_named later name) later.spot Twice) (second ∷ key) in
     let apart : is_named second name ≡ false = no_fault (is_named second name) second.spot Twice
-        (each_none (λ later. fault_if (is_named later name) later.spot Twice) (second ∷ key) 0 second (front_none seconds (repeats (second ∷ key)) once) refl) in
+    (each_none (λ later. fault_if (is_named later name) later.spot Twice) (second ∷ key) 0 second (front_none seconds (repeats (second ∷ key)) once) refl) in
     absurd (let clash : true ≡ false = sym again ∙ apart in cc)
 
 pub fresh_key : (schema : List Declaration) (accepted : AcceptedSchema schema) (number : ℕ) (t : Declaration) → slice_get schema number ≡ Some t → is_fresh t ≡ true → DrawnKey t

@@ -40,8 +40,5 @@ fn is_drawn(merge: Merge) -> bool
 pub fn is_fresh(table: &Table) -> bool
     ensures { result ≡ is_fresh (declaration_of table.now) }
 {
-    table
-        .columns
-        .iter()
-        .any(|column| is_drawn(column.merge) && is_key(table, &column.name))
+    table.columns.iter().any(|column| is_drawn(column.merge) && is_key(table, &column.name))
 }

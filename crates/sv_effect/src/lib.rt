@@ -30,5 +30,5 @@ pub use outcomes::{Outcome, Ran};
 pub use reads::{Ask, Halt, Read, Seen, Told};
 pub use rows::{RowStore, Rows};
 pub use sv_app::Got;
-pub use values::{column, got_of, key_values, prepend, put_got, zeros, zero_of};
+pub use values::{column, got_of, key_values, prepend, put_got, zero_of, zeros};
 pub use writes::make_writes;

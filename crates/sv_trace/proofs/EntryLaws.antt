@@ -57,7 +57,6 @@ at_end : {A B : Type 0} (f : A → B) (xs : List A) (b : B) → slice_get (map f
 at_end f [] b = refl
 at_end f (x ∷ xs) b = at_end f xs b
 
-
 -- the units of the entries so far; in a loop with that of the turn that the run is in
 abbrev entry_units : List Instance → List ℕ
 entry_units instances = map (λ (i : Instance). i.unit) instances

@@ -91,10 +91,10 @@ pub makes_fresh : (f : Frame) (at : Scope) (x t : Ident) (es : List Term) (st : 
     → Makes f at (Fresh x t es) st end
 makes_fresh f at x t es st vs z d (Some row) end command holds is declared goes = absurd cc
 makes_fresh f at x t es st vs z d None end command holds is declared goes = record {
-    holds = done.holds;
-    along = subst (λ (q : Values). Along to st.scope.progress q.progress) (sym done.scope)
-        (along_went to (formed x.num) (λ w. paths.put types.Int (way w)) st.scope with_key (is_formed x.num with_key.progress) (went_then way (paths.put types.Int) st.scope z with_key values.went (went_put p.key.first types.Int z refl)) (λ w. refl) refl refl (λ left. refl));
-  }
+  holds = done.holds;
+  along = subst (λ (q : Values). Along to st.scope.progress q.progress) (sym done.scope)
+      (along_went to (formed x.num) (λ w. paths.put types.Int (way w)) st.scope with_key (is_formed x.num with_key.progress) (went_then way (paths.put types.Int) st.scope z with_key values.went (went_put p.key.first types.Int z refl)) (λ w. refl) refl refl (λ left. refl));
+}
   where
     p : Place
     p = record { table = t.num; key = drawn_key f.first st.effects }
