@@ -17,9 +17,11 @@ use Rattle.sv_tool.specs.declared.steps.Step.{Step}
 use Rattle.sv_tool.specs.declared.steps.Step.TheVariants.{Ask, Deliver, Show}
 use Rattle.sv_tool.specs.Form.{Form, asks_in, shows_in, CountFrom}
 use Rattle.sv_tool.specs.Grammar.{kinds, word, count, IsWithin, AreMany, AreDifferent, IsTable, IsTxn, IsRow, IsAsk, IsDeliver, IsShow, IsStep, IsForm}
-use Rattle.sv_tool.specs.Reading.{Read, ◌>>=◌, after, is_kind, ends, is_empty, table_at, txn_at, txns_at, row_at, rows_at, step_at, steps_at, names_differ, places_differ, is_whole, parts_at, form_of_parts, whole_form, form_of}
+use Rattle.sv_reader.specs.Reading.{is_kind}
+use Rattle.sv_tool.specs.Reading.{Read, ◌>>=◌, after, ends, is_empty, table_at, txn_at, txns_at, row_at, rows_at, step_at, steps_at, names_differ, places_differ, is_whole, parts_at, form_of_parts, whole_form, form_of}
 use Rattle.sv_tool.proofs.DistinctLaws.{both, both_true, are_different, different_are, are_distinct, distinct_are}
-use Rattle.sv_tool.proofs.KindLaws.{took_then, Same, same_read, bound, on_after, after_there}
+use Rattle.sv_reader.proofs.AnswerLaws.{Same}
+use Rattle.sv_tool.proofs.KindLaws.{took_then, same_read, bound, on_after, after_there}
 use Rattle.sv_tool.proofs.LeafLaws.{on_number, number_there, none_there}
 use Rattle.sv_tool.proofs.ListLaws.{ReadItem, many_few, many_read, many_numbered, many_there}
 use Rattle.sv_tool.proofs.PartLaws.{table_read, table_there, txn_read, txn_there, row_read, row_there}

@@ -1,16 +1,13 @@
 -- Reading tokens of given kinds.
 use Rattle.std.proofs.Common.{◌≡◌, ◌∙◌, Bool, true, false, List, [], ◌∷◌, ◌++◌, Some, None, refl, sym, ap, subst, append_assoc, cond}
-use Rattle.std.proofs.lemmas.Bool.Decides.{Decides-int_eq}
 use Rattle.std.proofs.lemmas.List.{map-append}
-use Rattle.std.proofs.lemmas.Slice.Eq.{bytes_eq-Decides}
-use Rattle.sv_lex.specs.declared.marks.Mark.{Mark as IsMark}
-use Rattle.sv_lex.specs.declared.marks.Mark.TheVariants.{LeftParen}
 use Rattle.sv_lex.specs.declared.tokens.Token.{Token}
 use Rattle.sv_lex.specs.declared.tokens.TokenKind.{TokenKind}
-use Rattle.sv_lex.specs.declared.tokens.TokenKind.TheVariants.{Name, Number, Text, Mark}
-use Rattle.sv_lex.specs.Marks.{mark_bytes, longest_mark}
 use Rattle.sv_tool.specs.Grammar.{kinds}
-use Rattle.sv_tool.specs.Reading.{Read, ◌>>=◌, is_kind, kind_at, after}
+use Rattle.sv_reader.specs.Reading.{is_kind}
+use Rattle.sv_reader.proofs.AnswerLaws.{Same}
+use Rattle.sv_reader.proofs.KindLaws.{kind_is, kind_same}
+use Rattle.sv_tool.specs.Reading.{Read, ◌>>=◌, kind_at, after}
 
 -- tokens of these kinds stand before the rest
 pub record Took (tokens : List Token) (ks : List TokenKind) (rest : List Token) : Type 0 where
@@ -33,33 +30,6 @@ took_then {a} {b} {c} {ks} {ms} first second = record {
 
 pub same_took : {a b : List Token} {ks ms : List TokenKind} → ks ≡ ms → Took a ks b → Took a ms b
 same_took {a} {b} e took = subst (λ (l : List TokenKind). Took a l b) e took
-
--- a mark is told by its bytes
-mark_back : (mark : IsMark) → longest_mark (mark_bytes mark) ≡ Some mark
-unfolding longest_mark
-mark_back LeftParen = refl
-mark_back _ = refl
-
-pub same_mark : (a b : IsMark) → mark_bytes a ≡ mark_bytes b → a ≡ b
-same_mark a b e = let same : Some a ≡ Some b = sym (mark_back a) ∙ ap longest_mark e ∙ mark_back b in cc
-
-pub kind_is : (wanted found : TokenKind) → is_kind wanted found ≡ true → found ≡ wanted
-kind_is (Name wanted) (Name found) e = ap Name ((bytes_eq-Decides found wanted).0 e)
-kind_is (Number wanted) (Number found) e = ap Number ((Decides-int_eq found wanted).0 e)
-kind_is (Text wanted) (Text found) e = ap Text ((bytes_eq-Decides found wanted).0 e)
-kind_is (Mark wanted) (Mark found) e = ap Mark (same_mark found wanted ((bytes_eq-Decides (mark_bytes found) (mark_bytes wanted)).0 e))
-kind_is _ _ e = absurd cc
-
-pub kind_same : (kind : TokenKind) → is_kind kind kind ≡ true
-kind_same (Name name) = (bytes_eq-Decides name name).1 refl
-kind_same (Number n) = (Decides-int_eq n n).1 refl
-kind_same (Text text) = (bytes_eq-Decides text text).1 refl
-kind_same (Mark mark) = (bytes_eq-Decides (mark_bytes mark) (mark_bytes mark)).1 refl
-
--- equal answers of reading
-pub record Same {A : Type 0} (a b : A) (rest last : List Token) : Type 0 where
-  pub item : a ≡ b
-  pub rests : rest ≡ last
 
 pub same_read : {A : Type 0} {a b : A} {rest last : List Token} → ◌≡◌ {A = Read A} (Some (a, rest)) (Some (b, last)) → Same a b rest last
 same_read {A} {a} {b} {rest} {last} e =

@@ -10,9 +10,11 @@ use Rattle.sv_lex.specs.declared.tokens.TokenKind.TheVariants.{Name, Number, Tex
 use Rattle.sv_app.specs.Words.{is_among, schema_words, type_words, control_words, change_words, is_reserved}
 use Rattle.sv_core.specs.Run.{fits64}
 use Rattle.sv_tool.specs.Grammar.{kinds, count, reserved, IsFree, IsWithin, IsVal, Plain, Signed, IsPair}
-use Rattle.sv_tool.specs.Reading.{Read, ◌>>=◌, with_rest, is_kind, is_next, kind_at, name_in, name_at, nat_within, int_in, int_at, number_at, fitting, value_at, pair_at}
+use Rattle.sv_reader.specs.Reading.{is_kind, is_next}
+use Rattle.sv_tool.specs.Reading.{Read, ◌>>=◌, with_rest, kind_at, name_in, name_at, nat_within, int_in, int_at, number_at, fitting, value_at, pair_at}
 use Rattle.sv_tool.specs.declared.readers.Pair.{Pair}
-use Rattle.sv_tool.proofs.KindLaws.{Took, took_then, took_one, same_took, Same, same_read, bound, kind_taken, on_after, kind_there, after_there}
+use Rattle.sv_reader.proofs.AnswerLaws.{Same}
+use Rattle.sv_tool.proofs.KindLaws.{Took, took_then, took_one, same_took, same_read, bound, kind_taken, on_after, kind_there, after_there}
 
 not_among : (words : List (List ℕ)) (name : List ℕ) → is_among words name ≡ false → All (λ other. name ≢ other) words
 not_among [] name e = All-nil (λ other. name ≢ other)

@@ -4,7 +4,8 @@ use Rattle.sv_lex.specs.declared.tokens.Token.{Token}
 use Rattle.sv_tool.specs.Form.{CountFrom}
 use Rattle.sv_tool.specs.Grammar.{AreMany}
 use Rattle.sv_tool.specs.Reading.{Read, ◌>>=◌, ends, many}
-use Rattle.sv_tool.proofs.KindLaws.{Same, same_read, bound}
+use Rattle.sv_reader.proofs.AnswerLaws.{Same}
+use Rattle.sv_tool.proofs.KindLaws.{same_read, bound}
 
 pub many_few : {A : Type 0} (read : ℕ → List Token → Read A) (first most : ℕ) (tokens : List Token) (xs : List A) (rest : List Token) → many read first most tokens ≡ Some (xs, rest) → length xs ≤ most
 unfolding many

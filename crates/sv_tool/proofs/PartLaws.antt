@@ -13,7 +13,8 @@ use Rattle.sv_tool.specs.declared.readers.Pair.{Pair}
 use Rattle.sv_tool.specs.declared.readers.Schema.{Schema}
 use Rattle.sv_tool.specs.Grammar.{kinds, first_spot, word, IsFree, IsPair, IsTable, IsTxn, IsRow}
 use Rattle.sv_tool.specs.Reading.{Read, ◌>>=◌, spot_of, ident_at, pair_at, table_at, txn_at, row_of, row_at}
-use Rattle.sv_tool.proofs.KindLaws.{Took, took_then, Same, same_read, bound, on_after, after_there, after_stands}
+use Rattle.sv_reader.proofs.AnswerLaws.{Same}
+use Rattle.sv_tool.proofs.KindLaws.{Took, took_then, same_read, bound, on_after, after_there, after_stands}
 use Rattle.sv_tool.proofs.LeafLaws.{on_name, pair_read, name_here, name_there, pair_there, none_there}
 
 module _ {B G : Type 0} (more : Ident → List Token → Read B) (answer : B) (last : List Token) where

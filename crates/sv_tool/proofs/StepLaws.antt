@@ -12,8 +12,10 @@ use Rattle.sv_tool.specs.declared.readers.Pair.{Pair}
 use Rattle.sv_tool.specs.declared.steps.Step.{Step}
 use Rattle.sv_tool.specs.declared.steps.Step.TheVariants.{Ask, Deliver, Show}
 use Rattle.sv_tool.specs.Grammar.{kinds, word, IsWithin, IsAsk, IsDeliver, IsShow, IsStep, AreDifferent}
-use Rattle.sv_tool.specs.Reading.{Read, ◌>>=◌, with_rest, is_kind, is_next, txn_in, named_at, request_of, ask_at, deliver_at, show_at, step_at}
-use Rattle.sv_tool.proofs.KindLaws.{Took, took_then, Same, same_read, bound, on_after, after_there}
+use Rattle.sv_reader.specs.Reading.{is_kind, is_next}
+use Rattle.sv_tool.specs.Reading.{Read, ◌>>=◌, with_rest, txn_in, named_at, request_of, ask_at, deliver_at, show_at, step_at}
+use Rattle.sv_reader.proofs.AnswerLaws.{Same}
+use Rattle.sv_tool.proofs.KindLaws.{Took, took_then, same_read, bound, on_after, after_there}
 use Rattle.sv_tool.proofs.LeafLaws.{found, on_number, number_there, pair_there, none_there}
 use Rattle.sv_tool.proofs.PartLaws.{on_pair}
 use Rattle.sv_tool.proofs.PlaceLaws.{names_of, place_has, has_place}

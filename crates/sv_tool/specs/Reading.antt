@@ -1,16 +1,13 @@
 -- Reading a document of one counter table from left to right: what some tokens begin with, and the tokens behind it.
 use Rattle.std.specs.Prelude.{◌≡◌, ℕ, zero, suc, ℤ, pos, negsuc, neg_ℤ, Bool, true, false, not, ◌&&◌, if◌then◌else◌, nat_le, List, [], ◌∷◌, map, position, Option, Some, None, Result, Ok, Err, bytes_eq, codes}
 use Rattle.std.specs.List.{list_any}
-use Rattle.std.specs.Ordering.{int_eq}
 use Rattle.sv_value.specs.declared.packets.Packet.TheVariants.{Blue}
 use Rattle.sv_value.specs.declared.spots.Spot.{Spot}
 use Rattle.sv_value.specs.declared.values.Val.TheVariants.{Int}
-use Rattle.sv_lex.specs.declared.marks.Mark.{Mark as IsMark}
 use Rattle.sv_lex.specs.declared.marks.Mark.TheVariants.{LeftParen, RightParen, LeftBrace, RightBrace, LeftBracket, RightBracket, Comma, Semi, Dot, Colon, Eq, Plus, Minus, At, Percents}
 use Rattle.sv_lex.specs.declared.tokens.Token.{Token}
 use Rattle.sv_lex.specs.declared.tokens.TokenKind.{TokenKind}
 use Rattle.sv_lex.specs.declared.tokens.TokenKind.TheVariants.{Name, Number, Text, Mark}
-use Rattle.sv_lex.specs.Marks.{mark_bytes}
 use Rattle.sv_app.specs.declared.apps.Ident.{Ident}
 use Rattle.sv_tool.specs.declared.readers.Adder.{Adder}
 use Rattle.sv_app.specs.declared.refusals.Code.TheVariants.{Syntax}
@@ -24,6 +21,7 @@ use Rattle.sv_app.specs.declared.requests.InitRow.{InitRow}
 use Rattle.sv_app.specs.declared.requests.Request.{Request}
 use Rattle.sv_core.specs.Run.{fits64, key_of}
 use Rattle.sv_effect.specs.TablesOfCut.{is_place, init_place}
+use Rattle.sv_reader.specs.Reading.{is_kind, is_next}
 use Rattle.sv_tool.specs.declared.readers.Pair.{Pair}
 use Rattle.sv_tool.specs.declared.readers.Parts.{Parts}
 use Rattle.sv_tool.specs.declared.readers.Schema.{Schema}
@@ -61,21 +59,6 @@ abbrev pub Gives : {A : Type 0} → Result A Stop → Option A → Type 0
 Gives (Ok a) found = found ≡ Some a
 Gives (Err (Refused refusal)) found = (found ≡ None) × (refusal ≡ at_start)
 Gives (Err NoMemory) found = Unit {0}
-
-abbrev pub is_mark : IsMark → IsMark → Bool
-is_mark wanted found = bytes_eq (mark_bytes found) (mark_bytes wanted)
-
--- whether what is found is what is wanted
-abbrev pub is_kind : TokenKind → TokenKind → Bool
-is_kind (Name wanted) (Name found) = bytes_eq found wanted
-is_kind (Number wanted) (Number found) = int_eq found wanted
-is_kind (Text wanted) (Text found) = bytes_eq found wanted
-is_kind (Mark wanted) (Mark found) = is_mark wanted found
-is_kind _ _ = false
-
-abbrev pub is_next : TokenKind → List Token → Bool
-is_next wanted [] = false
-is_next wanted (token ∷ rest) = is_kind wanted token.kind
 
 abbrev pub behind : List Token → List Token
 behind [] = []

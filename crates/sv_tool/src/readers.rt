@@ -1,6 +1,6 @@
 ghost use Rattle.std.specs.Prelude.{◌≡◌, neg_ℤ};
 ghost use Rattle.sv_app.specs.declared.refusals.Stop.TheVariants.{Refused};
-ghost use Rattle.sv_tool.specs.Reading.{at_start, is_mark, Gives, nat_within, fitting};
+ghost use Rattle.sv_tool.specs.Reading.{at_start, Gives, nat_within, fitting};
 
 use crate::steps::Step;
 use sv_app::{Code, Ident, InitRow, Refusal, Stop, is_reserved};
@@ -48,12 +48,6 @@ pub fn refused() -> Stop
     })
 }
 
-fn is_mark(wanted: Mark, found: Mark) -> bool
-    ensures { result ≡ is_mark wanted found }
-{
-    found == wanted
-}
-
 /// Reads tokens from left to right: `rest` are those that are left.
 #[derive(Drop)]
 pub struct Reader<'a> {
@@ -63,32 +57,23 @@ pub struct Reader<'a> {
 impl Reader<'_> {
     ghost use Rattle.std.specs.Prelude.{Option};
     ghost use Rattle.sv_lex.specs.declared.tokens.TokenKind.TheVariants.{Name as IsName, Mark as OfMark};
-    ghost use Rattle.sv_tool.specs.Reading.{Reads, Gives, is_next, behind, kind_at, spot_of, name_at, int_at, nat_within, number_at, fitting, value_at, pair_at, ident_at, ends};
+    ghost use Rattle.sv_reader.specs.Reading.{is_next};
+    ghost use Rattle.sv_tool.specs.Reading.{Reads, Gives, behind, kind_at, spot_of, name_at, int_at, nat_within, number_at, fitting, value_at, pair_at, ident_at, ends};
 
     /// Whether the next token is this word.
     pub fn is_word(&self, wanted: &[u8]) -> bool
         ensures { result ≡ is_next (IsName wanted.now) self.now.rest.now }
     {
-        match self.rest {
-            [token, ..] => match &token.kind {
-                TokenKind::Name(name) => name.bytes() == wanted,
-                _ => false,
-            },
-            [] => false,
-        }
+        let reader = sv_reader::Reader { rest: self.rest };
+        reader.is_word(wanted)
     }
 
     /// Whether the next token is this mark.
     pub fn is_mark(&self, wanted: Mark) -> bool
         ensures { result ≡ is_next (OfMark wanted) self.now.rest.now }
     {
-        match self.rest {
-            [token, ..] => match &token.kind {
-                TokenKind::Mark(found) => is_mark(wanted, *found),
-                _ => false,
-            },
-            [] => false,
-        }
+        let reader = sv_reader::Reader { rest: self.rest };
+        reader.is_mark(wanted)
     }
 
     /// Whether no token is left, or the next begins another part.
