@@ -6,9 +6,9 @@ use Rattle.sv_lex.specs.declared.tokens.Token.{Token}
 use Rattle.sv_lex.specs.Tokens.{Fault, lexed}
 use Rattle.sv_app.specs.declared.refusals.Code.TheVariants.{Syntax}
 use Rattle.sv_app.specs.declared.refusals.Refusal.{Refusal}
-use Rattle.sv_core.specs.Document.{Document, document_of}
-use Rattle.sv_core.specs.Sound.{Sound}
-use Rattle.sv_core.specs.Legal.{Legal}
+use Rattle.sv_first.specs.Document.{Document, document_of}
+use Rattle.sv_first.specs.Sound.{Sound}
+use Rattle.sv_first.specs.Legal.{Legal}
 use Rattle.sv_tool.specs.declared.statuses.Status.TheVariants.{Done}
 use Rattle.sv_tool.specs.declared.steps.Replay.{Replay}
 use Rattle.sv_tool.specs.declared.steps.Step.{Step}

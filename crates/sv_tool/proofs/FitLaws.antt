@@ -8,16 +8,16 @@ use Rattle.sv_lex.specs.declared.tokens.Token.{Token}
 use Rattle.sv_lex.specs.declared.tokens.TokenKind.{TokenKind}
 use Rattle.sv_app.specs.declared.requests.InitRow.{InitRow}
 use Rattle.sv_app.specs.declared.requests.Request.{Request}
-use Rattle.sv_core.specs.declared.entries.Delivered.{Delivered}
-use Rattle.sv_core.specs.declared.entries.Delivered.TheVariants.{Applied, Duplicate, Early, Unknown}
-use Rattle.sv_core.specs.Document.{Document}
-use Rattle.sv_core.specs.Sound.{Sound, IsInitRow}
-use Rattle.sv_core.specs.Run.{fits64, first_arg, second_arg}
-use Rattle.sv_core.specs.History.{History, answers}
-use Rattle.sv_core.specs.Legal.{Legal}
-use Rattle.sv_core.specs.World.{answer_due, delivered, after_delivery}
-use Rattle.sv_core.proofs.StepLaws.{due_next}
-use Rattle.sv_core.proofs.WorldLaws.{is_apply}
+use Rattle.sv_first.specs.declared.entries.Delivered.{Delivered}
+use Rattle.sv_first.specs.declared.entries.Delivered.TheVariants.{Applied, Duplicate, Early, Unknown}
+use Rattle.sv_first.specs.Document.{Document}
+use Rattle.sv_first.specs.Sound.{Sound, IsInitRow}
+use Rattle.sv_first.specs.Run.{fits64, first_arg, second_arg}
+use Rattle.sv_first.specs.History.{History, answers}
+use Rattle.sv_first.specs.Legal.{Legal}
+use Rattle.sv_first.specs.World.{answer_due, delivered, after_delivery}
+use Rattle.sv_first.proofs.StepLaws.{due_next}
+use Rattle.sv_first.proofs.WorldLaws.{is_apply}
 use Rattle.sv_tool.specs.declared.steps.Step.{Step}
 use Rattle.sv_tool.specs.declared.steps.Step.TheVariants.{Ask, Deliver, Show}
 use Rattle.sv_tool.specs.Form.{Form, document_of_form, asks_in}

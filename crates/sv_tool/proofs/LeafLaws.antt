@@ -8,7 +8,7 @@ use Rattle.sv_lex.specs.declared.tokens.Token.{Token}
 use Rattle.sv_lex.specs.declared.tokens.TokenKind.{TokenKind}
 use Rattle.sv_lex.specs.declared.tokens.TokenKind.TheVariants.{Name, Number, Text, Mark}
 use Rattle.sv_app.specs.Words.{is_among, schema_words, type_words, control_words, change_words, is_reserved}
-use Rattle.sv_core.specs.Run.{fits64}
+use Rattle.sv_first.specs.Run.{fits64}
 use Rattle.sv_tool.specs.Grammar.{kinds, count, reserved, IsFree, IsWithin, IsVal, Plain, Signed, IsPair}
 use Rattle.sv_reader.specs.Reading.{is_kind, is_next}
 use Rattle.sv_tool.specs.Reading.{Read, ◌>>=◌, with_rest, kind_at, name_in, name_at, nat_within, int_in, int_at, number_at, fitting, value_at, pair_at}

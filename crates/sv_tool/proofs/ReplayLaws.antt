@@ -15,10 +15,10 @@ use Rattle.sv_app.specs.declared.refusals.Stop.TheVariants.{Refused, NoMemory}
 use Rattle.sv_app.specs.declared.requests.Arg.{Arg}
 use Rattle.sv_app.specs.declared.requests.InitRow.{InitRow}
 use Rattle.sv_app.specs.declared.requests.Request.{Request}
-use Rattle.sv_core.specs.Document.{Document}
-use Rattle.sv_core.specs.Legal.{FitsDoc}
-use Rattle.sv_core.specs.Run.{fits64, first_arg, second_arg}
-use Rattle.sv_core.specs.Sound.{IsInitRow, Sound}
+use Rattle.sv_first.specs.Document.{Document}
+use Rattle.sv_first.specs.Legal.{FitsDoc}
+use Rattle.sv_first.specs.Run.{fits64, first_arg, second_arg}
+use Rattle.sv_first.specs.Sound.{IsInitRow, Sound}
 use Rattle.sv_tool.specs.declared.readers.Parts.{Parts}
 use Rattle.sv_tool.specs.declared.steps.Replay.{Replay}
 use Rattle.sv_tool.specs.declared.steps.Step.{Step}

@@ -1,9 +1,9 @@
 -- Which steps can be made on a world of a document, over the history that the steps before them made.
 use Rattle.std.specs.Prelude.{ℕ, ◌≤◌, ◌<◌, List, [], ◌∷◌}
 use Rattle.sv_app.specs.declared.requests.Request.{Request}
-use Rattle.sv_core.specs.Document.{Document}
-use Rattle.sv_core.specs.History.{History, answers}
-use Rattle.sv_core.specs.Legal.{FitsDoc}
+use Rattle.sv_first.specs.Document.{Document}
+use Rattle.sv_first.specs.History.{History, answers}
+use Rattle.sv_first.specs.Legal.{FitsDoc}
 use Rattle.sv_tool.specs.declared.steps.Step.{Step}
 use Rattle.sv_tool.specs.declared.steps.Step.TheVariants.{Ask, Deliver, Show}
 use Rattle.sv_tool.specs.ReplayText.{after_step}

@@ -7,7 +7,7 @@ use Rattle.sv_app.specs.declared.schemas.Kind.TheVariants.{Uoset}
 use Rattle.sv_app.specs.declared.schemas.Merge.TheVariants.{Plain, NumDelta}
 use Rattle.sv_app.specs.declared.schemas.Ty.TheVariants.{Int}
 use Rattle.sv_app.specs.Schema.{Declaration}
-use Rattle.sv_core.specs.Document.{Document, document_of}
+use Rattle.sv_first.specs.Document.{Document, document_of}
 use Rattle.sv_tool.specs.declared.steps.Replay.{Replay}
 use Rattle.sv_tool.specs.declared.steps.Step.{Step}
 use Rattle.sv_tool.specs.declared.steps.Step.TheVariants.{Ask, Deliver, Show}

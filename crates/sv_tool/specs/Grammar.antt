@@ -12,7 +12,7 @@ use Rattle.sv_app.specs.declared.requests.Arg.TheVariants.{Int as IntArg}
 use Rattle.sv_app.specs.declared.requests.InitRow.{InitRow}
 use Rattle.sv_app.specs.declared.requests.Request.{Request}
 use Rattle.sv_app.specs.Words.{schema_words, type_words, control_words, change_words}
-use Rattle.sv_core.specs.Run.{fits64, key_of}
+use Rattle.sv_first.specs.Run.{fits64, key_of}
 use Rattle.sv_store.specs.Initial.{AreDistinct}
 use Rattle.sv_tool.specs.declared.steps.Step.{Step}
 use Rattle.sv_tool.specs.declared.steps.Step.TheVariants.{Ask, Deliver, Show}

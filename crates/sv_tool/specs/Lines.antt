@@ -11,14 +11,14 @@ use Rattle.sv_app.specs.declared.places.Place.{Place}
 use Rattle.sv_app.specs.declared.refusals.Refusal.{Refusal}
 use Rattle.sv_app.specs.Codes.{number_of}
 use Rattle.sv_effect.specs.StampedTables.{StampedRow}
-use Rattle.sv_core.specs.Run.{counter_of}
-use Rattle.sv_core.specs.declared.entries.Outcome.TheVariants.{Done, NoRow, Range}
-use Rattle.sv_core.specs.declared.entries.Reply.{Reply}
-use Rattle.sv_core.specs.declared.entries.Reply.TheVariants.{Ran}
-use Rattle.sv_core.specs.declared.entries.Entry.{Entry}
-use Rattle.sv_core.specs.declared.entries.Entry.TheVariants.{Answer, Apply}
-use Rattle.sv_core.specs.declared.entries.Delivered.{Delivered}
-use Rattle.sv_core.specs.declared.entries.Delivered.TheVariants.{Applied, Duplicate, Early, Unknown}
+use Rattle.sv_first.specs.Run.{counter_of}
+use Rattle.sv_first.specs.declared.entries.Outcome.TheVariants.{Done, NoRow, Range}
+use Rattle.sv_first.specs.declared.entries.Reply.{Reply}
+use Rattle.sv_first.specs.declared.entries.Reply.TheVariants.{Ran}
+use Rattle.sv_first.specs.declared.entries.Entry.{Entry}
+use Rattle.sv_first.specs.declared.entries.Entry.TheVariants.{Answer, Apply}
+use Rattle.sv_first.specs.declared.entries.Delivered.{Delivered}
+use Rattle.sv_first.specs.declared.entries.Delivered.TheVariants.{Applied, Duplicate, Early, Unknown}
 
 -- `blue SITE SEQ` or `red SLOT`
 abbrev pub packet_text : Packet → List ℕ

@@ -19,7 +19,7 @@ use Rattle.sv_app.specs.declared.refusals.Stop.TheVariants.{Refused, NoMemory}
 use Rattle.sv_app.specs.declared.requests.Arg.TheVariants.{Int as IntArg}
 use Rattle.sv_app.specs.declared.requests.InitRow.{InitRow}
 use Rattle.sv_app.specs.declared.requests.Request.{Request}
-use Rattle.sv_core.specs.Run.{fits64, key_of}
+use Rattle.sv_first.specs.Run.{fits64, key_of}
 use Rattle.sv_effect.specs.TablesOfCut.{is_place, init_place}
 use Rattle.sv_reader.specs.Reading.{is_kind, is_next}
 use Rattle.sv_tool.specs.declared.readers.Pair.{Pair}

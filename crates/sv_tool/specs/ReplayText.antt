@@ -6,9 +6,9 @@ use Rattle.std.specs.FinMap.Entries.{is_sorted}
 use Rattle.sv_app.specs.declared.places.Place.{Place}
 use Rattle.sv_app.specs.Tables.{place_cmp}
 use Rattle.sv_effect.specs.StampedTables.{StampedRow, StampedTables}
-use Rattle.sv_core.specs.Document.{Document}
-use Rattle.sv_core.specs.History.{History, tables_at}
-use Rattle.sv_core.specs.World.{answer_due, delivered, after_delivery}
+use Rattle.sv_first.specs.Document.{Document}
+use Rattle.sv_first.specs.History.{History, tables_at}
+use Rattle.sv_first.specs.World.{answer_due, delivered, after_delivery}
 use Rattle.sv_tool.specs.declared.steps.Step.{Step}
 use Rattle.sv_tool.specs.declared.steps.Step.TheVariants.{Ask, Deliver, Show}
 use Rattle.sv_tool.specs.Form.{Form, document_of_form}

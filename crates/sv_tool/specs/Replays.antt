@@ -4,9 +4,9 @@ use Rattle.sv_value.specs.declared.packets.Packet.TheVariants.{Blue, Red}
 use Rattle.sv_lex.specs.declared.tokens.Token.{Token}
 use Rattle.sv_app.specs.declared.refusals.Stop.{Stop}
 use Rattle.sv_app.specs.declared.refusals.Stop.TheVariants.{Refused, NoMemory}
-use Rattle.sv_core.specs.Document.{Document, document_of}
-use Rattle.sv_core.specs.Legal.{FitsDoc}
-use Rattle.sv_core.specs.Sound.{Sound}
+use Rattle.sv_first.specs.Document.{Document, document_of}
+use Rattle.sv_first.specs.Legal.{FitsDoc}
+use Rattle.sv_first.specs.Sound.{Sound}
 use Rattle.sv_tool.specs.declared.steps.Replay.{Replay}
 use Rattle.sv_tool.specs.declared.steps.Step.{Step}
 use Rattle.sv_tool.specs.declared.steps.Step.TheVariants.{Ask, Deliver, Show}

@@ -9,7 +9,7 @@ use crate::readers::{Adder, Parts, Reader, Schema, refused};
 use crate::steps::Replay;
 use std::alloc::Global;
 use sv_app::{App, Column, Ident, Kind, Merge, Stop, Table, Txn, Ty};
-use sv_core::Doc;
+use sv_first::Doc;
 use sv_lex::{Mark, Token};
 use sv_value::{Name, NoMemory, Packet, Spot};
 

@@ -1,7 +1,7 @@
 ghost use Rattle.std.specs.Prelude.{◌≡◌, ◌++◌, ◌≤◌, ◌<◌, [], ◌∷◌, length, reverse, slice_get, Some, OnOk, IfOk, codes};
-ghost use Rattle.sv_core.specs.Document.{document_of};
-ghost use Rattle.sv_core.specs.Sound.{Sound};
-ghost use Rattle.sv_core.specs.World.{answer_due, delivered, after_delivery};
+ghost use Rattle.sv_first.specs.Document.{document_of};
+ghost use Rattle.sv_first.specs.Sound.{Sound};
+ghost use Rattle.sv_first.specs.World.{answer_due, delivered, after_delivery};
 ghost use Rattle.sv_tool.specs.Lines.{entry_line, delivered_line, show_lines};
 ghost use Rattle.sv_tool.specs.ReplayText.{rows_of, step_text, after_step, steps_text, after_steps};
 ghost use Rattle.sv_tool.specs.CanMake.{CanAsk, IsSiteOf, CanMake, CanMakeAll};
@@ -11,7 +11,7 @@ use crate::steps::Step;
 use crate::texts::{put_answer, put_bytes, put_delivered};
 use std::alloc::Global;
 use sv_app::Request;
-use sv_core::{Entry, World};
+use sv_first::{Entry, World};
 use sv_value::{Name, NoMemory, Packet, Site};
 
 /// Appends the line of an entry of the history.

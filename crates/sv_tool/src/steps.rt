@@ -1,5 +1,5 @@
 use sv_app::Request;
-use sv_core::Doc;
+use sv_first::Doc;
 use sv_value::{List, Packet, Site};
 
 /// A step of a replay: a session asks for a transaction, a packet is delivered at a site, or the rows that a site has

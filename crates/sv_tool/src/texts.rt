@@ -7,7 +7,7 @@ ghost use Rattle.sv_tool.specs.Lines.{packet_text, label_text, reply_text, answe
 
 use itoa::Buffer;
 use sv_app::Refusal;
-use sv_core::{Delivered, Outcome, Reply, counter_of};
+use sv_first::{Delivered, Outcome, Reply, counter_of};
 use sv_store::KeptRow;
 use sv_value::{Key, NoMemory, Packet, Val, put_int};
 

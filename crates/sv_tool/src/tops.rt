@@ -1,5 +1,5 @@
 ghost use Rattle.std.specs.Prelude.{◌≡◌, ◌≤◌, IfOk, IfSome};
-ghost use Rattle.sv_core.specs.Legal.{Legal};
+ghost use Rattle.sv_first.specs.Legal.{Legal};
 ghost use Rattle.sv_tool.specs.Answer.{IsReplay, form_in};
 ghost use Rattle.sv_tool.specs.Form.{document_of_form};
 ghost use Rattle.sv_tool.specs.Headline.{Headline};

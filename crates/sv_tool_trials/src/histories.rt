@@ -2,7 +2,7 @@
 use std::alloc::Global;
 use std::test::Fail;
 use sv_app::{Arg, Request};
-use sv_core::{Doc, Entry, Outcome, Reply, is_legal, is_sound};
+use sv_first::{Doc, Entry, Outcome, Reply, is_legal, is_sound};
 use sv_lex::lex;
 use sv_tool::{Replay, read_replay};
 use sv_value::{List, Packet, Site};
