@@ -11,8 +11,8 @@ use Rattle.sv_app.specs.Schema.{Declaration, declaration_of, schema_of}
 use Rattle.sv_app.specs.Trees.{Transaction}
 use Rattle.sv_app.specs.TxnConditions.{KeepsTxnGrammar, KeepsTxnLimits}
 use Rattle.sv_app.specs.TxnNumbers.{numbered_txns}
-use Rattle.sv_typing.specs.Systems.{AreNarrow}
-use Rattle.sv_typing.proofs.UnmetLaws.{are_narrow}
+use Rattle.sv_gains.specs.Systems.{AreNarrow}
+use Rattle.sv_gains.proofs.RowLaws.{are_narrow}
 use Rattle.sv_typing.proofs.NumberedSchema.{grammar_numbered, limits_numbered, invariants_numbered, faults_numbered, acyclic_numbered, numbered_twice}
 use Rattle.sv_typing.proofs.NumberedTxns.{txn_grammar_numbered, txn_limits_numbered, txns_faults_numbered, txns_numbered_twice}
 use Rattle.sv_typing.proofs.PlaceLaws.{schema_right, txns_right}

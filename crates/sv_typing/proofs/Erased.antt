@@ -18,7 +18,7 @@ use Rattle.sv_app.specs.References.{referred, refers}
 use Rattle.sv_app.specs.Schema.{Rule, Bound, OneOf, Different, Refers, Invariant, Declaration}
 use Rattle.sv_app.specs.Typing.{fault_if, repeats, faults, table_faults, key_faults, column_faults, rule_faults, no_column, at_column, another_key, side_faults, second_side, shape_faults, check_faults, differs, referring_faults, referred_faults, target_faults, is_numdelta, is_text, is_int, is_only_key, is_misplaced, is_merged_wrong}
 use Rattle.sv_app.proofs.ListLaws.{map_map}
-use Rattle.sv_typing.proofs.NotedLaws.{flat_mapped}
+use Rattle.sv_gains.proofs.FlatLaws.{flat_mapped}
 
 abbrev pub bare : Ident → Ident
 bare name = record { name = name.name; spot = name.spot; num = 0 }

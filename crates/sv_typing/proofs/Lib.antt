@@ -13,6 +13,5 @@ pub mod FirstLaws
 pub mod LookupLaws
 pub mod SecondLaws
 pub mod StatementLaws
-pub mod SystemLaws
 pub mod UnmetLaws
 pub mod ValueLaws

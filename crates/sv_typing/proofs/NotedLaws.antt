@@ -1,33 +1,24 @@
 -- What is held is the first of the candidates; it is held list after list.
 use Rattle.std.proofs.Common.{◌≡◌, ℕ, ◌+◌, ◌<◌, List, [], ◌∷◌, ◌++◌, length, take, drop, get_or, refl, sym, ap, ◌∙◌, append-nil, Option, Some, map}
 use Rattle.std.specs.List.{flat_map}
-use Rattle.std.proofs.lemmas.List.{take_more}
-use Rattle.std.proofs.lemmas.Grind.{flat_map-append}
 use Rattle.sv_app.specs.declared.apps.Ident.{Ident}
 use Rattle.sv_app.specs.declared.refusals.Code.TheVariants.{Twice}
 use Rattle.sv_app.specs.declared.refusals.Refusal.{Refusal}
 use Rattle.sv_app.specs.Lookups.{is_named}
 use Rattle.sv_app.specs.Typing.{fault_if, repeats}
 use Rattle.sv_typing.specs.Noted.{sooner, noted}
+use Rattle.sv_gains.proofs.FlatLaws.{flat_taken, flat_mapped}
 use Rattle.sv_typing.proofs.LookupLaws.{at_drop}
 
 pub noted_append : (held : Option Refusal) (front back : List Refusal) → noted held (front ++ back) ≡ noted (noted held front) back
 noted_append held [] back = refl
 noted_append held (x ∷ front) back = noted_append (Some (sooner held x)) front back
 
-pub flat_taken : {T A : Type 0} (f : T → List A) (xs : List T) (i : ℕ) (x : T) → i < length xs → x ≡ get_or xs i x → flat_map f (take (i + 1) xs) ≡ flat_map f (take i xs) ++ f x
-flat_taken f xs i x h e =
-    ap (flat_map f) (take_more xs i x h) ∙ flat_map-append f (take i xs) (get_or xs i x ∷ []) ∙ ap (λ ys. flat_map f (take i xs) ++ ys) (append-nil (f (get_or xs i x)) ∙ ap f (sym e))
-
 -- a loop that notes what is wrong with each of a list
 pub noted_more : {T : Type 0} (f : T → List Refusal) (xs : List T) (i : ℕ) (x : T) (start held now : Option Refusal) → i < length xs → x ≡ get_or xs i x
     → held ≡ noted start (flat_map f (take i xs)) → now ≡ noted held (f x) → now ≡ noted start (flat_map f (take (i + 1) xs))
 noted_more f xs i x start held now h e before step =
     step ∙ ap (λ o. noted o (f x)) before ∙ sym (noted_append start (flat_map f (take i xs)) (f x)) ∙ ap (noted start) (sym (flat_taken f xs i x h e))
-
-pub flat_mapped : {T A B : Type 0} (g : T → B) (f : B → List A) (xs : List T) → flat_map f (map g xs) ≡ flat_map (λ x. f (g x)) xs
-flat_mapped g f [] = refl
-flat_mapped g f (x ∷ xs) = ap (λ ys. f (g x) ++ ys) (flat_mapped g f xs)
 
 -- the same, of what each of the list stands for
 pub noted_mapped : {T B : Type 0} (g : T → B) (f : B → List Refusal) (xs : List T) (i : ℕ) (x : T) (start held now : Option Refusal) → i < length xs → x ≡ get_or xs i x

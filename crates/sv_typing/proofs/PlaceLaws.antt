@@ -16,7 +16,7 @@ use Rattle.sv_app.specs.Satisfiable.{IsUnmet}
 use Rattle.sv_app.proofs.AcceptedLaws.{front_none, back_none, each_none}
 use Rattle.sv_app.proofs.SchemaLaws.{own_place}
 use Rattle.sv_typing.proofs.FirstLaws.{first_is_one}
-use Rattle.sv_typing.proofs.SystemLaws.{unmet}
+use Rattle.sv_gains.proofs.SystemLaws.{unmet}
 use Rattle.std.proofs.lemmas.Bool.Decides.{nat_tests}
 use Rattle.sv_app.specs.Lookups.{table_names, column_names}
 use Rattle.sv_app.specs.Numbers.{numbered, numbered_in, numbered_table, numbered_column}

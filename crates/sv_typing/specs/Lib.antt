@@ -3,4 +3,3 @@ pub mod Noted
 pub mod Reached
 pub mod Seconds
 pub mod Standing
-pub mod Systems

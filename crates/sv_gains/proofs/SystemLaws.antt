@@ -4,13 +4,14 @@ use Rattle.std.specs.Prelude.{ℤ, pos, ◌+ℤ◌, ◌-ℤ◌, ◌<ℤ◌, ◌�
 use Rattle.std.specs.List.{All}
 use Rattle.std.proofs.lemmas.Int.{ints}
 use Rattle.std.proofs.lemmas.List.{length-map}
+use Rattle.std.proofs.lemmas.List.Elements.{All-map}
 use Rattle.sv_app.specs.declared.schemas.Check.{Check}
 use Rattle.sv_app.specs.Satisfiable.{checks_of, number_of, value_of, IsMet, IsSatisfiable, bound_at, IsCycleOf}
 use Rattle.sv_app.specs.Satisfiable.{IsChain as IsCheckChain, sum_of as check_sum}
 use Rattle.sv_app.specs.Schema.{Declaration}
 use Rattle.sv_bounds.specs.declared.systems.Diff.{Diff}
 use Rattle.sv_bounds.specs.Differences.{row_at, Holds, Meets, IsChain, sum_of, IsCycle}
-use Rattle.sv_typing.specs.Systems.{variable_of, row_of}
+use Rattle.sv_gains.specs.Systems.{variable_of, row_of}
 
 abbrev unvariable : ℕ → Option ℕ
 unvariable zero = None
@@ -25,18 +26,38 @@ all_unmapped f Q [] each k d h = absurd (omega (arith, h))
 all_unmapped f Q (x ∷ xs) each zero d h = each 0 (f x) (omega arith)
 all_unmapped f Q (x ∷ xs) each (suc k) d h = all_unmapped f Q xs (λ j e less. each (suc j) e (omega (arith, less))) k d (omega (arith, h))
 
-value_same : (v : ℕ → ℤ) (side : Option ℕ) → v 0 ≡ pos 0 → v (variable_of side) ≡ value_of (λ column. v (suc column)) side
+pub value_same : (v : ℕ → ℤ) (side : Option ℕ) → v 0 ≡ pos 0 → v (variable_of side) ≡ value_of (λ column. v (suc column)) side
 value_same v None e = e
 value_same v (Some column) e = refl
 
 -- an assignment that meets the rows meets the checks
+pub numbers_meet : (checks : List Check) (v : ℕ → ℤ) → Meets (map row_of checks) v → All (IsMet (λ column. v (suc column))) checks
+numbers_meet checks v meets k d less =
+    let check : Check = get_or checks k d in
+    let held : Holds v (row_of check) = all_unmapped row_of (Holds v) checks meets.each k d less in
+    subst (λ (p : ℤ × ℤ). (p.0 -ℤ p.1) ≤ℤ check.most) (λ i. (value_same v (number_of check.hi) meets.zero_first i, value_same v (number_of check.lo) meets.zero_first i)) held
+
 pub satisfied : (table : Declaration) (v : ℕ → ℤ) → Meets (map row_of (checks_of table)) v → IsSatisfiable table
 satisfied table v meets = record {
   values = λ column. v (suc column);
-  met = λ k d less.
-      let check : Check = get_or (checks_of table) k d in
-      let held : Holds v (row_of check) = all_unmapped row_of (Holds v) (checks_of table) meets.each k d less in
-      subst (λ (p : ℤ × ℤ). (p.0 -ℤ p.1) ≤ℤ check.most) (λ i. (value_same v (number_of check.hi) meets.zero_first i, value_same v (number_of check.lo) meets.zero_first i)) held;
+  met = numbers_meet (checks_of table) v meets;
+}
+
+-- numbers as an assignment, which meets the rows where the numbers meet the checks
+abbrev pub with_zero : (ℕ → ℤ) → ℕ → ℤ
+with_zero numbers zero = pos 0
+with_zero numbers (suc column) = numbers column
+
+pub with_zero_at : (numbers : ℕ → ℤ) (side : Option ℕ) → with_zero numbers (variable_of side) ≡ value_of numbers side
+with_zero_at numbers None = refl
+with_zero_at numbers (Some column) = refl
+
+pub rows_meet : (checks : List Check) (numbers : ℕ → ℤ) → All (IsMet numbers) checks → Meets (map row_of checks) (with_zero numbers)
+rows_meet checks numbers met = record {
+  zero_first = refl;
+  each = All-map (Holds (with_zero numbers)) row_of checks (λ k d less.
+      let check : Check = get_or checks k d in
+      subst (λ (p : ℤ × ℤ). (p.0 -ℤ p.1) ≤ℤ check.most) (λ i. (sym (with_zero_at numbers (number_of check.hi)) i, sym (with_zero_at numbers (number_of check.lo)) i)) (met k d less));
 }
 
 check_at : (checks : List Check) (i : ℕ) → i < length checks → (check : Check) × (slice_get checks i ≡ Some check) × (row_at (map row_of checks) i ≡ row_of check)
