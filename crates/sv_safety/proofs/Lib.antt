@@ -1,0 +1,27 @@
+mod AcceptLaws
+mod ApartLaws
+mod Cells
+mod CheckSteps
+mod DrawLaws
+mod DrawnLaws
+mod Finds
+mod FoundLaws
+mod GivenLaws
+mod GrowRefs
+mod HasLaws
+mod InitialLaws
+mod KindLaws
+mod LastLaws
+mod MarkSteps
+mod NeedLaws
+mod OpLaws
+pub mod Promises
+mod RefLaws
+mod RowSteps
+mod SafeLaws
+mod Stamps
+mod StampLaws
+mod StandLaws
+mod StayLaws
+mod TableWalk
+mod Walk

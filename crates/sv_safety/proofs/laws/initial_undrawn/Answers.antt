@@ -1,0 +1,5 @@
+use Rattle.sv_safety.proofs.Promises as promise
+use Rattle.sv_safety.proofs.laws.initial_undrawn.Goals as goal
+
+pub returns : goal.returns
+returns c = promise.initial_undrawn
