@@ -1,9 +1,12 @@
-//! Runs and verdicts beside plain programs, by the cases of standard input. A case's document has tables, transactions,
-//! initial rows and the head of a replay; its command is `run` or `verdict` and the call of a transaction, with
-//! `from NUMBER` in front where the run draws its keys from that number on. A run's line is what the run comes to; a
-//! verdict's line is which invariant is broken first after its changes, and at which key.
-//! Where the plain program and the call on a store, or on a store whose reads are noted, come to different things, each
-//! has a line. Standard output tells how many cases there are, and which of them come out otherwise.
+//! Runs, verdicts and labels beside plain programs, by the cases of standard input. A case's document has tables,
+//! transactions, initial rows and the head of a replay; its command is `run`, `verdict` or `label` and the call of
+//! a transaction, with `from NUMBER` in front where the run draws its keys from that number on. A run's line is
+//! what the run comes to; a verdict's line is which invariant is broken first after its changes, and at which key;
+//! a label's line is whether its changes are none, blue, or red, with the first threat. With `within NUMBER` in
+//! front of `label` the plain program judges them too, by the rows whose numbers lie between minus this number and
+//! this number. Where the plain program and the call on a store, or on a store whose reads are noted, come to
+//! different things, each has a line. Standard output tells how many cases there are, and which of them come out
+//! otherwise.
 #![tactic(auto)]
 
 mod documents;
@@ -11,9 +14,11 @@ mod fitting;
 mod halts;
 mod plain;
 mod plain_changes;
+mod plain_labels;
 mod plain_needs;
 mod plain_rows;
 mod plain_states;
+mod plain_threats;
 mod plain_values;
 mod plain_verdicts;
 mod texts;

@@ -13,7 +13,8 @@ fn integer(number: Option<i64>) -> Result<Val, Halted> {
     }
 }
 
-fn number_in(val: &Val) -> i64 {
+/// The number in a value.
+pub fn number_in(val: &Val) -> i64 {
     match val {
         Val::Int(number) => *number,
         Val::Text(_) => 0,

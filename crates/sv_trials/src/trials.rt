@@ -11,9 +11,10 @@ use crate::documents::{Trial, store, trial_of};
 use crate::fitting::check_request;
 use crate::plain::{PlainRun, run};
 use crate::plain_changes::got_of;
+use crate::plain_labels::label;
 use crate::plain_rows::PlainRow;
 use crate::plain_verdicts::judge;
-use crate::texts::{put_verdict, text_of};
+use crate::texts::{label_text, put_verdict, text_of};
 use crate::troubles::Trouble;
 use std::alloc::Global;
 use sv_app::{App, InitRow, Place, Request, first_key};
@@ -21,6 +22,7 @@ use sv_cases::Case;
 use sv_check::{Verdict, check_after};
 use sv_effect::{Noted, Outcome, Ran, RowEffect, Rows};
 use sv_interp::run_txn;
+use sv_threat::label_now;
 use sv_value::NoMemory;
 
 /// The greatest first key of a run: its 64 keys have 64 bits.
@@ -209,6 +211,41 @@ fn verdict_lines(alloc: Global, trial: &Trial, first: i64) -> Result<Vec<u8>, Tr
     Ok(lines(alloc, &plain, [&stored, &noted])?)
 }
 
+fn is_done(outcome: &Outcome) -> bool {
+    match outcome {
+        Outcome::Done(_) => true,
+        Outcome::Abort(_) | Outcome::NoRow | Outcome::Exists | Outcome::Range | Outcome::TooLarge =>
+            false,
+    }
+}
+
+/// The label of the changes of a run on a store of the initial rows. Within a reach the plain program judges them too.
+fn label_lines(
+    alloc: Global,
+    trial: &Trial,
+    first: i64,
+    reach: Option<u8>,
+) -> Result<Vec<u8>, Trouble>
+    requires first { first ≤ℤ pos 9223372036854775743 }
+    requires whole { AcceptedApp (schema_of trial.now.app.tables.items) (transactions_of trial.now.app.txns.items) }
+    requires tables { AcceptedSchema (schema_of trial.now.app.tables.items) }
+    requires rows { CanStand (schema_of trial.now.app.tables.items) trial.now.init }
+{
+    let ran = on_store(alloc, trial, first, false)?;
+    if !is_done(&ran.outcome) {
+        return Err(Trouble::Wrong("the run isn't done"));
+    }
+    let found = label_text(alloc, &label_now(alloc, &trial.app, ran.effects.items())?)?;
+    let plain = match reach {
+        None => Vec::from_slice(alloc, &found)?,
+        Some(reach) => {
+            let plain = label(alloc, &trial.app, ran.effects.items(), reach)?;
+            label_text(alloc, &plain)?
+        }
+    };
+    Ok(lines(alloc, &plain, [&found, &plain])?)
+}
+
 /// The document of a case: its request is the one ask of the replay.
 fn document_of(alloc: Global, case: &Case, call: &str) -> Result<Vec<u8>, NoMemory> {
     let mut document = Vec::from_slice(alloc, &case.document)?;
@@ -235,31 +272,58 @@ fn number_of(digits: &str) -> Result<i64, Trouble> {
     Ok(number)
 }
 
-/// Tries a command on its call, with this first key.
-fn try_command(alloc: Global, case: &Case, first: i64, command: &str) -> Result<Vec<u8>, Trouble> {
+/// What a command says of how its call is tried: the first key, and how far the plain program tries the numbers of
+/// a row.
+#[derive(Clone, Copy, Debug)]
+struct Ways {
+    first: i64,
+    reach: Option<u8>,
+}
+
+/// Tries a command on its call.
+fn try_call(
+    alloc: Global,
+    case: &Case,
+    ways: Ways,
+    what: &str,
+    call: &str,
+) -> Result<Vec<u8>, Trouble> {
+    let Ways { first, reach } = ways;
     if first > MOST_FIRST {
         return Err(Trouble::Wrong("a large first key"));
     }
-    let Some((what, call)) = command.split_once(' ') else {
-        return Err(Trouble::Wrong("no call"));
-    };
     let trial = trial_of(alloc, &document_of(alloc, case, call)?)?;
     match what {
         "run" => run_lines(alloc, &trial, first),
         "verdict" => verdict_lines(alloc, &trial, first),
+        "label" => label_lines(alloc, &trial, first, reach),
         _ => Err(Trouble::Wrong("no such command")),
     }
 }
 
-/// Tries a case, from the first key that its command gives, or else from that of the first request of the first session.
+/// The word in front, and what stands behind it.
+fn split(command: &str) -> Result<(&str, &str), Trouble> {
+    command.split_once(' ').ok_or(Trouble::Wrong("no call"))
+}
+
+/// Tries a case. Where its command names no first key, that of the first request of the first session is taken.
 fn try_case(alloc: Global, case: &Case) -> Result<Vec<u8>, Trouble> {
-    let Some(("from", rest)) = case.command.split_once(' ') else {
-        return try_command(alloc, case, first_key(1, 0), case.command.as_str());
+    let mut ways = Ways {
+        first: first_key(1, 0),
+        reach: None,
     };
-    let Some((digits, command)) = rest.split_once(' ') else {
-        return Err(Trouble::Wrong("no command"));
-    };
-    try_command(alloc, case, number_of(digits)?, command)
+    let (mut what, mut behind) = split(&case.command)?;
+    if what == "from" {
+        let (digits, rest) = split(behind)?;
+        ways.first = number_of(digits)?;
+        (what, behind) = split(rest)?;
+    }
+    if what == "within" {
+        let (digits, rest) = split(behind)?;
+        ways.reach = u8::try_from(number_of(digits)?).ok();
+        (what, behind) = split(rest)?;
+    }
+    try_call(alloc, case, ways, what, behind)
 }
 
 /// The lines of a case, or what is wrong with it.
