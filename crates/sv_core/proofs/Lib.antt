@@ -1,0 +1,13 @@
+pub mod BirthLaws
+pub mod ClockLaws
+pub mod CutLaws
+pub mod FactLaws
+pub mod HistoryLaws
+pub mod JudgedLaws
+pub mod ListLaws
+pub mod MediumLaws
+pub mod PreparedLaws
+pub mod Promises
+pub mod SafeLaws
+pub mod TimeLaws
+pub mod WalkLaws

@@ -1,0 +1,10 @@
+pub mod Clock
+pub mod Document
+pub mod History
+pub mod Judged
+pub mod Laws
+pub mod Legal
+pub mod Made
+pub mod Room
+pub mod Runs
+pub mod Sound
