@@ -1,0 +1,9 @@
+pub mod FactLaws
+pub mod FormLaws
+pub mod OrderLaws
+pub mod PutLaws
+pub mod Ring
+pub mod SliceLaws
+pub mod SumLaws
+pub mod ValueLaws
+pub mod WalkLaws

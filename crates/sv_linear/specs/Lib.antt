@@ -1,0 +1,9 @@
+pub mod Apart
+pub mod Atoms
+pub mod Codes
+pub mod Effects
+pub mod Facts
+pub mod Forms
+pub mod Laws
+pub mod Sums
+pub mod Tests

@@ -1,0 +1,14 @@
+mod DrawLaws
+mod Following
+mod KindLaws
+mod NamingLaws
+mod PlaceLaws
+mod Relation
+mod RouteLaws
+mod RunLaws
+mod StepLaws
+mod SuitLaws
+mod TryLaws
+mod TurnLaws
+mod WayLaws
+mod WriteLaws

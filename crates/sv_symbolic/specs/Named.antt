@@ -1,0 +1,39 @@
+-- Forms, facts and effects name only the symbols that were brought in.
+use Rattle.std.specs.Prelude.{ℕ, ℤ, pos, neg_ℤ, ◌≤◌, ◌<ℤ◌, ◌^◌, List, [], ◌∷◌, All}
+use Rattle.sv_bounds.specs.declared.systems.Diff.{Diff}
+use Rattle.sv_linear.specs.Effects.{SymValue, Number, TextIs, TextSymbol, SymWrite, Delta, Set, SymEffect}
+
+-- symbols are numbered from 1 to n
+abbrev pub IsSymbol : ℕ → ℕ → Type 0
+IsSymbol n s = (1 ≤ s) × (s ≤ n)
+
+abbrev pub TermsName : ℕ → List (ℕ × ℤ) → Type 0
+TermsName n [] = Unit {0}
+TermsName n (t ∷ ts) = IsSymbol n t.0 × TermsName n ts
+
+abbrev pub ValueNames : ℕ → SymValue → Type 0
+ValueNames n (Number f) = TermsName n f.terms
+ValueNames n (TextIs t) = Unit {0}
+ValueNames n (TextSymbol s) = IsSymbol n s
+
+abbrev pub WriteNames : ℕ → SymWrite → Type 0
+WriteNames n (Delta f) = TermsName n f.terms
+WriteNames n (Set v) = ValueNames n v
+
+abbrev pub WritesName : ℕ → List (ℕ × SymWrite) → Type 0
+WritesName n [] = Unit {0}
+WritesName n (w ∷ ws) = WriteNames n w.1 × WritesName n ws
+
+abbrev pub EffectsName : ℕ → List SymEffect → Type 0
+EffectsName n [] = Unit {0}
+EffectsName n (e ∷ es) = WritesName n e.writes × EffectsName n es
+
+-- a row of a system over symbols 1 to n, where 0 stands for zero, with a bound strictly between -2^70 and 2^70
+pub record IsFact (n : ℕ) (row : Diff) : Type 0 where
+  pub x : row.x ≤ n
+  pub y : row.y ≤ n
+  pub low : neg_ℤ (pos (2 ^ 70)) <ℤ row.most
+  pub high : row.most <ℤ pos (2 ^ 70)
+
+abbrev pub AreFacts : ℕ → List Diff → Type 0
+AreFacts n rows = All (IsFact n) rows
