@@ -1,0 +1,3 @@
+pub mod CauseLaws
+pub mod MissingLaws
+pub mod PassLaws

@@ -1,0 +1,4 @@
+pub mod HeldLaws
+pub mod QueryLaws
+pub mod RestLaws
+pub mod RowsLaws

@@ -1,0 +1,8 @@
+use Rattle.std.proofs.Common.{◌≡◌, drop}
+use Rattle.std.specs.Prelude.{map}
+use Rattle.sv_effect.specs.TablesOfCut.{turns_of, last, started}
+use Rattle.sv_plain.specs.Held.{change_of, mark_of}
+use Rattle.sv_plain.proofs.cells.last_mark.Given as goal
+
+abbrev pub invariant-loop-change : goal.invariant-loop-change
+invariant-loop-change l = last (mark_of l.last) (turns_of (map change_of (drop l.change-index l.changes))) ≡ last (started l.fn.first) (turns_of (map change_of l.changes))
