@@ -85,7 +85,7 @@ pub init_none : (schema : List Declaration) → empty_tables ≡ tables_held sch
 init_none schema = same_map place_total exact_places _ _ (λ q. get-empty place_cmp q ∙ sym (get-start schema [] q))
 
 -- the place of the next row is free
-pub init_free : (schema : List Declaration) (init : List InitRow) (i : ℕ) (x : InitRow) → AreDistinct init → i < length init → x ≡ get_or init i x
+init_free : (schema : List Declaration) (init : List InitRow) (i : ℕ) (x : InitRow) → AreDistinct init → i < length init → x ≡ get_or init i x
     → get (tables_held schema (take i init) empty) (init_place x) ≡ None
 init_free schema init i x distinct lt is =
     get-start schema (take i init) (init_place x)
@@ -101,13 +101,13 @@ pub record Started (schema : List Declaration) (init : List InitRow) (room i : �
   pub left : s.room + i ≡ length init + room
   pub of : TablesAreOf schema s.tables
 
-pub init_room : (schema : List Declaration) (init : List InitRow) (room i : ℕ) (s : Stored) (x : InitRow) → AreDistinct init → i < length init → x ≡ get_or init i x
+init_room : (schema : List Declaration) (init : List InitRow) (room i : ℕ) (s : Stored) (x : InitRow) → AreDistinct init → i < length init → x ≡ get_or init i x
     → Started schema init room i s → HasRoom (get s.tables (init_place x)) s.room
 init_room schema init room i s x distinct lt is started =
     let some : 1 ≤ s.room = omega (arith, lt, started.left) in
     subst (λ o. HasRoom o s.room) (sym (ap (λ t. get t (init_place x)) started.tables ∙ init_free schema init i x distinct lt is)) some
 
-pub init_more : (schema : List Declaration) (init : List InitRow) (room i : ℕ) (s new : Stored) (x : InitRow) (table : Declaration) (p : Place) (row : StampedRow) → AreDistinct init → i < length init
+init_more : (schema : List Declaration) (init : List InitRow) (room i : ℕ) (s new : Stored) (x : InitRow) (table : Declaration) (p : Place) (row : StampedRow) → AreDistinct init → i < length init
     → x ≡ get_or init i x → slice_get schema x.table ≡ Some table → Started schema init room i s → p ≡ init_place x → row ≡ row_from table.columns x.values true → CountsFit row.cells → InitFits schema x → new ≡ with_row s p row
     → Started schema init room (i + 1) new
 init_more schema init room i s new x table p row distinct lt is declared started place start counts fit made = record { tables = tables; left = left; of = of }
@@ -157,10 +157,12 @@ pub record Ready (tables : List Table) (x : InitRow) (table : Table) : Type 0 wh
   pub few : length (declaration_of table).columns ≤ 16
   pub full : length x.values ≡ length (declaration_of table).columns
 
-pub init_bound : (tables : List Table) (init : List InitRow) (i : ℕ) (x : InitRow) → All (InitFits (schema_of tables)) init → i < length init → x ≡ get_or init i x → x.table < length tables
+init_bound : (tables : List Table) (init : List InitRow) (i : ℕ) (x : InitRow) → All (InitFits (schema_of tables)) init → i < length init
+    → x ≡ get_or init i x → x.table < length tables
 init_bound tables init i x fits lt is = let fit : InitFits (schema_of tables) x = subst (InitFits (schema_of tables)) (sym is) (fits i x lt) in is_declared tables x.table fit.table fit.declared
 
-pub init_ready : (tables : List Table) (init : List InitRow) (i : ℕ) (x : InitRow) (table : Table) → AcceptedSchema (schema_of tables) → All (InitFits (schema_of tables)) init → i < length init
+init_ready : (tables : List Table) (init : List InitRow) (i : ℕ) (x : InitRow) (table : Table) → AcceptedSchema (schema_of tables)
+    → All (InitFits (schema_of tables)) init → i < length init
     → x ≡ get_or init i x → table ≡ get_or tables x.table table → Ready tables x table
 init_ready tables init i x table accepted fits lt is at = record {
   declared = declared;
@@ -178,5 +180,41 @@ init_ready tables init i x table accepted fits lt is at = record {
 pub none_are_of : (schema : List Declaration) → AcceptedSchema schema → TablesAreOf schema empty_tables
 none_are_of schema accepted = record { accepted = accepted; rows = λ place row at. let e : ◌≡◌ {A = Option StampedRow} None (Some row) = sym (get-empty place_cmp place) ∙ at in absurd cc }
 
-pub init_fit : (schema : List Declaration) (init : List InitRow) (i : ℕ) (x : InitRow) → All (InitFits schema) init → i < length init → x ≡ get_or init i x → InitFits schema x
+init_fit : (schema : List Declaration) (init : List InitRow) (i : ℕ) (x : InitRow) → All (InitFits schema) init → i < length init → x ≡ get_or init i x
+    → InitFits schema x
 init_fit schema init i x fits lt is = subst (InitFits schema) (sym is) (fits i x lt)
+
+-- what the start asks of the initial rows
+pub record Starts (tables : List Table) (init : List InitRow) : Type 0 where
+  pub accepted : AcceptedSchema (schema_of tables)
+  pub fits : All (InitFits (schema_of tables)) init
+  pub distinct : AreDistinct init
+
+-- the row that comes next, as it was read
+pub record IsRead (init : List InitRow) (i : ℕ) (x : InitRow) : Type 0 where
+  pub within : i < length init
+  pub is : x ≡ get_or init i x
+
+pub read_bound : {tables : List Table} {init : List InitRow} {i : ℕ} {x : InitRow} → Starts tables init → IsRead init i x → x.table < length tables
+read_bound {tables} {init} {i} {x} starts read = init_bound tables init i x starts.fits read.within read.is
+
+pub read_ready : {tables : List Table} {init : List InitRow} {i : ℕ} {x : InitRow} (table : Table) → Starts tables init → IsRead init i x
+    → table ≡ get_or tables x.table table
+    → Ready tables x table
+read_ready {tables} {init} {i} {x} table starts read at = init_ready tables init i x table starts.accepted starts.fits read.within read.is at
+
+pub read_room : {tables : List Table} {init : List InitRow} {room i : ℕ} {s : Stored} {x : InitRow} (p : Place) → Starts tables init → IsRead init i x
+    → Started (schema_of tables) init room i s → p ≡ init_place x → HasRoom (get s.tables p) s.room
+read_room {tables} {init} {room} {i} {s} {x} p starts read started place =
+    subst (λ q. HasRoom (get s.tables q) s.room) (sym place) (init_room (schema_of tables) init room i s x starts.distinct read.within read.is started)
+
+-- and a store that keeps it goes on to the next
+pub read_kept : {tables : List Table} {init : List InitRow} {room i : ℕ} {s new : Stored} {x : InitRow} {p : Place} {row : StampedRow} (table : Table)
+    → Starts tables init
+    → IsRead init i x → table ≡ get_or tables x.table table → Started (schema_of tables) init room i s → p ≡ init_place x
+    → row ≡ row_from (declaration_of table).columns x.values true → CountsFit row.cells → new ≡ with_row s p row
+    → Started (schema_of tables) init room (i + 1) new
+read_kept {tables} {init} {room} {i} {s} {new} {x} {p} {row} table starts read at started place start counts made =
+    init_more (schema_of tables) init room i s new x (declaration_of table) p row starts.distinct read.within read.is
+    (read_ready table starts read at).declared started place start counts
+    (init_fit (schema_of tables) init i x starts.fits read.within read.is) made

@@ -150,7 +150,7 @@ next_in table after (x ∷ rows) rising behind =
     split true true own mark ih = (own_table table x.place.table (is_after after x.place.key) own (behind 0 x refl), found own mark, λ key a lt. less own key lt)
     split true false own mark ih = next_along (present_among table rows) (present_among table (x ∷ rows)) after (first_present table rows) (λ key a. past mark key) ih
 
-get_drop : (rows : List KeptRow) (at i : ℕ) → slice_get (drop at rows) i ≡ slice_get rows (at + i)
+pub get_drop : {A : Type 0} (rows : List A) (at i : ℕ) → slice_get (drop at rows) i ≡ slice_get rows (at + i)
 get_drop rows zero i = let n : i ≡ (0 + i) = omega arith in ap (slice_get rows) n
 get_drop [] (suc at) i = refl
 get_drop (x ∷ rows) (suc at) i = let n : suc (at + i) ≡ (suc at + i) = omega arith in get_drop rows at i ∙ ap (slice_get (x ∷ rows)) n
@@ -294,22 +294,22 @@ pub next_rises : (t : StampedTables) (table : ℕ) (after next : Option Key) →
 next_rises t table after None is = tt
 next_rises t table after (Some key) is = is.0
 
-less_is_not : (a b : ℕ) (o : Ordering) → ordering_then (nat_cmp b a) o ≡ Less → (nat_lt a b || (b == a && is_lt (ordering_reverse o))) ≡ false
+pub less_is_not : (a b : ℕ) (o : Ordering) → ordering_then (nat_cmp b a) o ≡ Less → (nat_lt a b || (b == a && is_lt (ordering_reverse o))) ≡ false
 less_is_not a b Less e = grind (arith, nat_tests)
 less_is_not a b Equal e = grind (arith, nat_tests)
 less_is_not a b Greater e = grind (arith, nat_tests)
 
-equal_is_not : (a b : ℕ) (o : Ordering) → ordering_then (nat_cmp b a) o ≡ Equal → (nat_lt a b || (b == a && is_lt (ordering_reverse o))) ≡ false
+pub equal_is_not : (a b : ℕ) (o : Ordering) → ordering_then (nat_cmp b a) o ≡ Equal → (nat_lt a b || (b == a && is_lt (ordering_reverse o))) ≡ false
 equal_is_not a b Less e = grind (arith, nat_tests)
 equal_is_not a b Equal e = grind (arith, nat_tests)
 equal_is_not a b Greater e = grind (arith, nat_tests)
 
-greater_is : (a b : ℕ) (o : Ordering) → ordering_then (nat_cmp b a) o ≡ Greater → (nat_lt a b || (b == a && is_lt (ordering_reverse o))) ≡ true
+pub greater_is : (a b : ℕ) (o : Ordering) → ordering_then (nat_cmp b a) o ≡ Greater → (nat_lt a b || (b == a && is_lt (ordering_reverse o))) ≡ true
 greater_is a b Less e = grind (arith, nat_tests)
 greater_is a b Equal e = grind (arith, nat_tests)
 greater_is a b Greater e = grind (arith, nat_tests)
 
-by_order : (table : ℕ) (key : Key) (p : Place) → is_behind table (Some key) p ≡ (nat_lt table p.table || (p.table == table && is_lt (ordering_reverse (key_cmp p.key key))))
+pub by_order : (table : ℕ) (key : Key) (p : Place) → is_behind table (Some key) p ≡ (nat_lt table p.table || (p.table == table && is_lt (ordering_reverse (key_cmp p.key key))))
 by_order table key p = ap (λ o. nat_lt table p.table || (p.table == table && is_lt o)) (key_total.antisymm key p.key)
 
 -- the rows behind a place that stands, and behind the gap for one that doesn't

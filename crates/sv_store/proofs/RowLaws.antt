@@ -195,13 +195,13 @@ get_set (x ∷ rows) (suc at) new (suc j) a e = up (get_set rows at new j a e)
     up (inl both) = inl (ap suc both.0, both.1)
     up (inr old) = inr old
 
--- a row of the list with one put in stood before the gap, is the new one, or stood behind the gap, one place lower
-data Stands (rows : List KeptRow) (at : ℕ) (new : KeptRow) (j : ℕ) (a : KeptRow) : Type 0 where
+-- an item of a list with one put in stood before the gap, is the new one, or stood behind the gap, one place lower
+pub data Stands {A : Type 0} (rows : List A) (at : ℕ) (new : A) (j : ℕ) (a : A) : Type 0 where
   before : j < at → slice_get rows j ≡ Some a → Stands rows at new j a
   here : j ≡ at → new ≡ a → Stands rows at new j a
   behind : (k : ℕ) → j ≡ suc k → at ≤ k → slice_get rows k ≡ Some a → Stands rows at new j a
 
-get_insert : (rows : List KeptRow) (at : ℕ) (new : KeptRow) (j : ℕ) (a : KeptRow) → at ≤ length rows → slice_get (insert rows at new) j ≡ Some a → Stands rows at new j a
+pub get_insert : {A : Type 0} (rows : List A) (at : ℕ) (new : A) (j : ℕ) (a : A) → at ≤ length rows → slice_get (insert rows at new) j ≡ Some a → Stands rows at new j a
 get_insert rows zero new zero a within e = here refl cc
 get_insert rows zero new (suc j) a within e = behind j refl (omega arith) e
 get_insert [] (suc at) new j a within e = absurd (omega (arith, within))

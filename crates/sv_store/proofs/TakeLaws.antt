@@ -14,7 +14,8 @@ use Rattle.sv_effect.specs.declared.ops.RowEffect.{RowEffect}
 use Rattle.sv_effect.specs.declared.ops.Op.{Op}
 use Rattle.sv_effect.specs.StampedTables.{StampedRow, StampedTables}
 use Rattle.sv_effect.specs.RowChange.{changed, row_from, zero_row}
-use Rattle.sv_effect.specs.Applied.{Change, place_of, changes_from, columns_of, annotation_of, zeros_of, with_change_at, with_changes}
+use Rattle.sv_effect.specs.Applied.{Change, place_of, changes_from, columns_of, annotation_of, zeros_of, with_change_at, with_changes, applied}
+use Rattle.sv_effect.specs.BareTables.{how_many}
 use Rattle.sv_effect.specs.Fits.{FitsSchema, AllFit, ChangeFits, CellsFit, CountsFit}
 use Rattle.sv_effect.specs.RowsFit.{TablesAreOf}
 use Rattle.sv_effect.specs.Acts.{IsFound}
@@ -24,10 +25,13 @@ use Rattle.sv_effect.proofs.SourceLaws.{fit_rows, change_is_of}
 use Rattle.sv_store.specs.Stored.{Stored, HasRoom, room_after, with_row}
 use Rattle.sv_store.specs.Standing.{standing, left_by}
 
-abbrev pub stamp_at : Op → ℕ → Stamp
-stamp_at op n = record { time = op.time; site = op.site; place = n }
+abbrev stamp_from : Op → ℕ → ℕ → Stamp
+stamp_from op site n = record { time = op.time; site = site; place = n }
 
-abbrev pub change_at : Op → ℕ → RowEffect → Change
+abbrev stamp_at : Op → ℕ → Stamp
+stamp_at op n = stamp_from op op.site n
+
+abbrev change_at : Op → ℕ → RowEffect → Change
 change_at op n e = record { value = e; stamp = stamp_at op n }
 
 -- what the changes from a number on need
@@ -80,7 +84,8 @@ spent Fresh (Some row) room found = absurd found
 spent Update (Some row) room found = omega arith
 spent Remove (Some row) room found = omega arith
 
-pub first_needs : (schema : List Declaration) (op : Op) (n : ℕ) (e : RowEffect) (es : List RowEffect) (s : Stored) (table : Declaration) → slice_get schema e.table ≡ Some table → Takes schema op n (e ∷ es) s → Needs table (stamp_at op n) e s
+first_needs : (schema : List Declaration) (op : Op) (n : ℕ) (e : RowEffect) (es : List RowEffect) (s : Stored) (table : Declaration)
+    → slice_get schema e.table ≡ Some table → Takes schema op n (e ∷ es) s → Needs table (stamp_at op n) e s
 first_needs schema op n e es s table declared takes = record {
   few = narrow schema takes.rows.accepted e.table table declared;
   change = change;
@@ -97,14 +102,15 @@ first_needs schema op n e es s table declared takes = record {
     start (Some x) is = subst (λ cs. CellsFit cs x.cells) (ap columns_of declared) (fit_rows schema s.tables takes.rows (place_of e) x is)
 
 -- the store after the first change
-abbrev pub after_first : Declaration → Op → ℕ → RowEffect → Stored → Stored
+abbrev after_first : Declaration → Op → ℕ → RowEffect → Stored → Stored
 after_first table op n e s = with_row s (place_of e) (left_by table (stamp_at op n) e s.tables)
 
 first_made : (schema : List Declaration) (op : Op) (n : ℕ) (e : RowEffect) (s : Stored) (table : Declaration) → slice_get schema e.table ≡ Some table
     → with_change_at schema (place_of e) (change_at op n e) s.tables ≡ (after_first table op n e s).tables
 first_made schema op n e s table declared = ap (map_of.insert s.tables (place_of e)) (by_table schema table op n e s.tables declared)
 
-pub rest_takes : (schema : List Declaration) (op : Op) (n : ℕ) (e : RowEffect) (es : List RowEffect) (s : Stored) (table : Declaration) → slice_get schema e.table ≡ Some table → Takes schema op n (e ∷ es) s → Takes schema op (suc n) es (after_first table op n e s)
+rest_takes : (schema : List Declaration) (op : Op) (n : ℕ) (e : RowEffect) (es : List RowEffect) (s : Stored) (table : Declaration)
+    → slice_get schema e.table ≡ Some table → Takes schema op n (e ∷ es) s → Takes schema op (suc n) es (after_first table op n e s)
 rest_takes schema op n e es s table declared takes = record {
   rows = subst (TablesAreOf schema) made (change_is_of schema (change_at op n e) s.tables takes.fits.0 takes.counts.0 takes.rows);
   fits = takes.fits.1;
@@ -116,7 +122,8 @@ rest_takes schema op n e es s table declared takes = record {
     made : with_change_at schema (place_of e) (change_at op n e) s.tables ≡ (after_first table op n e s).tables
     made = first_made schema op n e s table declared
 
-pub rest_made : (schema : List Declaration) (op : Op) (n : ℕ) (e : RowEffect) (es : List RowEffect) (s : Stored) (table : Declaration) → slice_get schema e.table ≡ Some table
+rest_made : (schema : List Declaration) (op : Op) (n : ℕ) (e : RowEffect) (es : List RowEffect) (s : Stored) (table : Declaration)
+    → slice_get schema e.table ≡ Some table
     → with_changes schema (changes_from op n (e ∷ es)) s.tables ≡ with_changes schema (changes_from op (suc n) es) (after_first table op n e s).tables
 rest_made schema op n e es s table declared = ap (with_changes schema (changes_from op (suc n) es)) (first_made schema op n e s table declared)
 
@@ -136,21 +143,24 @@ takes_at : (schema : List Declaration) (op : Op) (i : ℕ) (e : RowEffect) (s : 
     → Takes schema op i (e ∷ drop (i + 1) op.effects) s
 takes_at schema op i e s lt is takes = subst (λ es. Takes schema op i es s) (drop_more op.effects i e lt ∙ ap (λ x. x ∷ drop (i + 1) op.effects) (sym is)) takes
 
-pub turn_bound : (tables : List Table) (op : Op) (i : ℕ) (e : RowEffect) (s : Stored) → i < length op.effects → e ≡ get_or op.effects i e → Takes (schema_of tables) op i (drop i op.effects) s
+turn_bound : (tables : List Table) (op : Op) (i : ℕ) (e : RowEffect) (s : Stored) → i < length op.effects → e ≡ get_or op.effects i e
+    → Takes (schema_of tables) op i (drop i op.effects) s
     → e.table < length tables
 turn_bound tables op i e s lt is takes = let fits : FitsSchema (schema_of tables) e = (takes_at (schema_of tables) op i e s lt is takes).fits.0 in is_declared tables e.table fits.table fits.declared
 
 pub declared_as : (tables : List Table) (n : ℕ) (table : Table) → n < length tables → table ≡ get_or tables n table → slice_get (schema_of tables) n ≡ Some (declaration_of table)
 declared_as tables n table lt is = declared_at tables n table lt ∙ ap (λ t. Some (declaration_of t)) (sym is)
 
-pub turn_needs : (tables : List Table) (op : Op) (i : ℕ) (e : RowEffect) (s : Stored) (table : Table) → i < length op.effects → e ≡ get_or op.effects i e → table ≡ get_or tables e.table table → Takes (schema_of tables) op i (drop i op.effects) s
+turn_needs : (tables : List Table) (op : Op) (i : ℕ) (e : RowEffect) (s : Stored) (table : Table) → i < length op.effects → e ≡ get_or op.effects i e
+    → table ≡ get_or tables e.table table → Takes (schema_of tables) op i (drop i op.effects) s
     → Needs (declaration_of table) (stamp_at op i) e s
 turn_needs tables op i e s table lt is at takes =
     first_needs (schema_of tables) op i e (drop (i + 1) op.effects) s (declaration_of table)
     (declared_as tables e.table table (turn_bound tables op i e s lt is takes) at) (takes_at (schema_of tables) op i e s lt is takes)
 
 -- the store that the turn leaves takes the rest, which makes the same of it
-pub turn_takes : (tables : List Table) (op : Op) (i : ℕ) (e : RowEffect) (s new : Stored) (table : Table) → i < length op.effects → e ≡ get_or op.effects i e → table ≡ get_or tables e.table table → Takes (schema_of tables) op i (drop i op.effects) s
+turn_takes : (tables : List Table) (op : Op) (i : ℕ) (e : RowEffect) (s new : Stored) (table : Table) → i < length op.effects → e ≡ get_or op.effects i e
+    → table ≡ get_or tables e.table table → Takes (schema_of tables) op i (drop i op.effects) s
     → new ≡ after_first (declaration_of table) op i e s → Takes (schema_of tables) op (i + 1) (drop (i + 1) op.effects) new
 turn_takes tables op i e s new table lt is at takes made =
     let n : suc i ≡ (i + 1) = omega arith in
@@ -159,7 +169,7 @@ turn_takes tables op i e s new table lt is at takes made =
     (rest_takes (schema_of tables) op i e (drop (i + 1) op.effects) s (declaration_of table)
     (declared_as tables e.table table (turn_bound tables op i e s lt is takes) at) (takes_at (schema_of tables) op i e s lt is takes)))
 
-pub turn_made : (tables : List Table) (op : Op) (i : ℕ) (e : RowEffect) (s new : Stored) (table : Table) → i < length op.effects → e ≡ get_or op.effects i e
+turn_made : (tables : List Table) (op : Op) (i : ℕ) (e : RowEffect) (s new : Stored) (table : Table) → i < length op.effects → e ≡ get_or op.effects i e
     → table ≡ get_or tables e.table table → Takes (schema_of tables) op i (drop i op.effects) s → new ≡ after_first (declaration_of table) op i e s
     → with_changes (schema_of tables) (changes_from op (i + 1) (drop (i + 1) op.effects)) new.tables ≡ with_changes (schema_of tables) (changes_from op i (drop i op.effects)) s.tables
 turn_made tables op i e s new table lt is at takes made =
@@ -169,7 +179,8 @@ turn_made tables op i e s new table lt is at takes made =
     ∙ ap (λ es. with_changes (schema_of tables) (changes_from op i es) s.tables) (sym (drop_more op.effects i e lt ∙ ap (λ x. x ∷ drop (i + 1) op.effects) (sym is)))
 
 -- the room that was there at first, but for what the changes so far may have taken
-pub turn_spent : (tables : List Table) (op : Op) (i first all : ℕ) (e : RowEffect) (s new : Stored) (table : Table) → i < length op.effects → e ≡ get_or op.effects i e
+turn_spent : (tables : List Table) (op : Op) (i first all : ℕ) (e : RowEffect) (s new : Stored) (table : Table) → i < length op.effects
+    → e ≡ get_or op.effects i e
     → Takes (schema_of tables) op i (drop i op.effects) s → new ≡ after_first (declaration_of table) op i e s
     → first + inserts (drop i op.effects) ≤ s.room + all → first + inserts (drop (i + 1) op.effects) ≤ new.room + all
 turn_spent tables op i first all e s new table lt is takes made le =
@@ -178,3 +189,47 @@ turn_spent tables op i first all e s new table lt is takes made le =
     let front : inserts (drop i op.effects) ≡ as_insert e.act + inserts (drop (i + 1) op.effects) =
     ap inserts (drop_more op.effects i e lt) ∙ ap (λ x. as_insert x.act + inserts (drop (i + 1) op.effects)) (sym is) in
     omega (arith, le, took, room, front)
+
+-- the changes of an operation from a number on, after those before it were made: what they leave is what the operation leaves, the rows and the room fill
+-- the same space, and no more room was taken than there were inserts
+pub record Changing (tables : List Table) (op : Op) (first : Stored) (n : ℕ) (s : Stored) : Type 0 where
+  pub takes : Takes (schema_of tables) op n (drop n op.effects) s
+  pub left : with_changes (schema_of tables) (changes_from op n (drop n op.effects)) s.tables ≡ applied (schema_of tables) op first.tables
+  pub room : s.room + how_many s.tables ≡ first.room + how_many first.tables
+  pub spent : first.room + inserts (drop n op.effects) ≤ s.room + inserts op.effects
+
+-- the change that comes next, read from a list of them
+pub record IsRead (op : Op) (n : ℕ) (e : RowEffect) : Type 0 where
+  pub within : n < length op.effects
+  pub is : e ≡ get_or op.effects n e
+
+pub change_read : (effects : List RowEffect) (op : Op) (n : ℕ) (e : RowEffect) → effects ≡ op.effects → n < length effects → e ≡ get_or effects n e
+    → IsRead op n e
+change_read effects op n e same within is = record { within = subst (λ es. n < length es) same within; is = is ∙ ap (λ es. get_or es n e) same }
+
+-- it has a table, which it fits on the rows that stand there
+pub read_bound : {tables : List Table} {op : Op} {first s : Stored} {n : ℕ} {e : RowEffect} → IsRead op n e → Changing tables op first n s
+    → e.table < length tables
+read_bound {tables} {op} {first} {s} {n} {e} read changing = turn_bound tables op n e s read.within read.is changing.takes
+
+pub read_needs : {tables : List Table} {op : Op} {first s : Stored} {n : ℕ} {e : RowEffect} (table : Table) (site : ℕ) → IsRead op n e
+    → table ≡ get_or tables e.table table
+    → site ≡ op.site → Changing tables op first n s → Needs (declaration_of table) (stamp_from op site n) e s
+read_needs {tables} {op} {first} {s} {n} {e} table site read at same changing =
+    subst (λ x. Needs (declaration_of table) (stamp_from op x n) e s) (sym same) (turn_needs tables op n e s table read.within read.is at changing.takes)
+
+-- and a store that makes it goes on to the next
+pub read_made : {tables : List Table} {op : Op} {first s new : Stored} {n : ℕ} {e : RowEffect} (table : Table) (site : ℕ) → IsRead op n e
+    → table ≡ get_or tables e.table table
+    → site ≡ op.site → new ≡ with_row s (place_of e) (left_by (declaration_of table) (stamp_from op site n) e s.tables)
+    → new.room + how_many new.tables ≡ s.room + how_many s.tables
+    → Changing tables op first n s → Changing tables op first (n + 1) new
+read_made {tables} {op} {first} {s} {new} {n} {e} table site read at same made room changing = record {
+  takes = turn_takes tables op n e s new table read.within read.is at changing.takes by_stamp;
+  left = turn_made tables op n e s new table read.within read.is at changing.takes by_stamp ∙ changing.left;
+  room = room ∙ changing.room;
+  spent = turn_spent tables op n first.room (inserts op.effects) e s new table read.within read.is changing.takes by_stamp changing.spent;
+}
+  where
+    by_stamp : new ≡ after_first (declaration_of table) op n e s
+    by_stamp = made ∙ ap (λ x. with_row s (place_of e) (left_by (declaration_of table) (stamp_from op x n) e s.tables)) same

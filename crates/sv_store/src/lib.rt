@@ -5,5 +5,5 @@ mod rows;
 mod sources;
 mod stores;
 
-pub use rows::KeptRow;
+pub use rows::{KeptRow, init_row, new_row};
 pub use stores::ListStore;

@@ -1,14 +1,14 @@
 ghost use Rattle.std.specs.Prelude.{◌≡◌, ◌≤◌, ◌∷◌, [], true, length, slice_get};
 ghost use Rattle.sv_app.specs.Schema.{declaration_of};
 ghost use Rattle.sv_effect.specs.StampedTables.{row_of, zero_stamp};
-ghost use Rattle.sv_effect.specs.RowChange.{cell_from, cells_from, key_values, from_key, row_from, zero_row};
-ghost use Rattle.sv_effect.specs.Fits.{CountsFit};
+ghost use Rattle.sv_effect.specs.RowChange.{cell_from, cells_from, changed, from_key, is_annotated, key_values, row_from, zero_row};
+ghost use Rattle.sv_effect.specs.Fits.{CellsFit, ChangeFits, CountsFit};
 ghost use Rattle.sv_effect.specs.TablesOfCut.{init_place};
 ghost use Rattle.sv_store.specs.Named.{is_named, zero_cells};
 
 use arrayvec::ArrayVec;
 use sv_app::{Column, Ident, InitRow, Merge, Place, Table};
-use sv_effect::{Cell, Row, zero_of};
+use sv_effect::{Cell, Row, RowEffect, apply_row, zero_of};
 use sv_value::{Key, Stamp, Val};
 
 /// A row that is kept, and where it stands.
@@ -102,7 +102,7 @@ fn zero_cells(columns: &[Column], names: &[Ident], key: &Key) -> ArrayVec<Cell, 
 }
 
 /// The row that changes of a row that isn't kept start from.
-pub(crate) fn zero_row(table: &Table, key: &Key) -> Row
+fn zero_row(table: &Table, key: &Key) -> Row
     requires { length (declaration_of table.now).columns ≤ 16 }
     ensures { row_of result ≡ zero_row (declaration_of table.now) key.now }
 {
@@ -113,8 +113,22 @@ pub(crate) fn zero_row(table: &Table, key: &Key) -> Row
     }
 }
 
-/// A row that is there from the start.
-pub(crate) fn init_row(table: &Table, row: &InitRow) -> KeptRow
+/// The row that a change leaves where none was kept. The change is of the table, which has at most 16 columns, as a row
+/// of zeros is, and each count that it leaves lies between -2^100 and 2^100.
+pub fn new_row(table: &Table, effect: &RowEffect, stamp: Stamp) -> Row
+    requires few { length (declaration_of table.now).columns ≤ 16 }
+    requires change { ChangeFits (declaration_of table.now) effect.now }
+    requires row { CellsFit (declaration_of table.now).columns (zero_row (declaration_of table.now) effect.now.key).cells }
+    requires counts { CountsFit (changed (is_annotated table.now.kind) stamp effect.now (zero_row (declaration_of table.now) effect.now.key)).cells }
+    ensures { row_of result ≡ changed (is_annotated table.now.kind) stamp effect.now (zero_row (declaration_of table.now) effect.now.key) }
+{
+    let mut row = zero_row(table, &effect.key);
+    apply_row(&mut row, table, effect, stamp);
+    row
+}
+
+/// A row that is there from the start. It has a value for each column of its table, at most 16.
+pub fn init_row(table: &Table, row: &InitRow) -> KeptRow
     requires few { length (declaration_of table.now).columns ≤ 16 }
     requires full { length row.now.values ≡ length (declaration_of table.now).columns }
     ensures place { result.place ≡ init_place row.now }

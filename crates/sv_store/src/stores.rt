@@ -19,7 +19,7 @@ ghost use Rattle.sv_store.specs.Stored.{entry_of, AreRising, IsAt, IsGapFor, Has
 ghost use Rattle.sv_store.specs.Rest.{IsStart, first_present};
 ghost use Rattle.sv_store.specs.Standing.{standing, left_by};
 
-use crate::rows::{KeptRow, init_row, zero_row};
+use crate::rows::{KeptRow, init_row, new_row};
 use std::alloc::Global;
 use std::marker::Model;
 use sv_app::{App, InitRow, Place, Table};
@@ -94,19 +94,6 @@ fn first_present(kept: &[KeptRow], table: u16) -> Option<Key>
         }
     }
     None
-}
-
-/// The row that a change leaves where none was kept.
-fn new_row(table: &Table, effect: &RowEffect, stamp: Stamp) -> Row
-    requires few { length (declaration_of table.now).columns ≤ 16 }
-    requires change { ChangeFits (declaration_of table.now) effect.now }
-    requires row { CellsFit (declaration_of table.now).columns (zero_row (declaration_of table.now) effect.now.key).cells }
-    requires counts { CountsFit (changed (is_annotated table.now.kind) stamp effect.now (zero_row (declaration_of table.now) effect.now.key)).cells }
-    ensures { row_of result ≡ changed (is_annotated table.now.kind) stamp effect.now (zero_row (declaration_of table.now) effect.now.key) }
-{
-    let mut row = zero_row(table, &effect.key);
-    apply_row(&mut row, table, effect, stamp);
-    row
 }
 
 impl ListStore {
