@@ -17,10 +17,10 @@ use Rattle.sv_workload.specs.declared.written.Setting.{Setting}
 use Rattle.sv_workload.specs.declared.written.Setting.TheVariants.{Sites}
 use Rattle.sv_workload.specs.Elements.{IsFirst, AreNone}
 use Rattle.sv_workload.specs.Grammar.{many, setting, line, session}
-use Rattle.sv_workload.specs.LastRefused.{BeginsWord, BeginsSetting, part_head, sites_set, LineRefused, SessionRefused, TooManyAsks, TooManyShows, BadSession, BadSite, BadOrigin, BadSeq, BadSlot, BadNumber, InCalls, NoEnd, LastRefused, NoPart, InSettings, NoSites, InLines, InSessions}
+use Rattle.sv_workload.specs.LastRefused.{BeginsWord, BeginsSetting, part_head, sites_set, LineRefused, SessionRefused, TooManyAsks, TooManyShows, BadSession, BadSite, BadOrigin, BadSeq, BadSlot, BadTarget, BadNumber, InCalls, NoEnd, LastRefused, NoPart, InSettings, NoSites, InLines, InSessions}
 use Rattle.sv_workload.specs.LastRefused as last
 use Rattle.sv_workload.specs.Reading.{front_from, begins_setting}
-use Rattle.sv_workload.specs.Written.{Line, Ask, Order, Deliver, Settle, Catch, Show, Cut, Session}
+use Rattle.sv_workload.specs.Written.{Line, Ask, Order, Deliver, Settle, Catch, Show, Cut, Move, Session}
 use Rattle.sv_workload.proofs.FrontLaws.{FrontIs, FrontRefused, front_judged, front_in, setting_none}
 use Rattle.sv_workload.proofs.JudgeLaws.{Found, InFirst, InSecond}
 use Rattle.sv_workload.proofs.LoopLaws.{Element, Elements}
@@ -42,6 +42,7 @@ line_some (Settle n) is = first_word (codes "settle") _ is
 line_some (Catch n) is = first_word (codes "catch") _ is
 line_some (Show n t) is = first_word (codes "show") _ is
 line_some (Cut n) is = first_word (codes "cut") _ is
+line_some (Move n site) is = first_word (codes "move") _ is
 
 session_some : (s : Session) → session s [] → ⊥
 session_some s is = let bad : [] ≡ is.first.first.token ∷ (is.first.back ++ is.back) = is.whole ∙ ap (λ l. l ++ is.back) (is.first.whole ∙ ap (λ l. l ++ is.first.back) is.first.first.only) in absurd cc
@@ -71,6 +72,7 @@ line_none schema txns sites before code here is = by_case code here [] refl is
     by_case _ _ tokens e (BadOrigin at front here w is out) = word_front (codes "deliver") _ front here tokens e w is
     by_case _ _ tokens e (BadSeq at origin front here w is out) = word_front (codes "deliver") _ front here tokens e w is
     by_case _ _ tokens e (BadSlot at front here w is out) = word_front (codes "deliver") _ front here tokens e w is
+    by_case _ _ tokens e (BadTarget of front here w is out) = word_front (codes "move") _ front here tokens e w is
     by_case _ _ tokens e (last.NoTable at front here table w is begins none) = word_front (codes "show") _ front here tokens e w is
     by_case _ _ tokens e (last.InCall n front rest code here w is refused) = word_front (codes "ask") _ front rest tokens e w is
 
@@ -98,6 +100,7 @@ line_unset (Settle n) front rest is = word_unset (codes "settle") _ front rest i
 line_unset (Catch n) front rest is = word_unset (codes "catch") _ front rest is
 line_unset (Show n t) front rest is = word_unset (codes "show") _ front rest is
 line_unset (Cut n) front rest is = word_unset (codes "cut") _ front rest is
+line_unset (Move n site) front rest is = word_unset (codes "move") _ front rest is
 
 session_unset : (s : Session) (front rest : List Token) → session s front → begins_setting (front ++ rest) ≡ false
 session_unset s front rest is = ap (λ l. begins_setting (l ++ rest)) is.whole ∙ ap begins_setting (append_assoc is.front is.back rest) ∙ word_unset (codes "session") _ is.front (is.back ++ rest) is.first

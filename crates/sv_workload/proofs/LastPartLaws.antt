@@ -35,7 +35,7 @@ init_front tokens _ _ (NoInit begins) = ([], refl)
 init_front tokens _ _ (Init rows front rest whole is ends) = (front, whole)
 
 module _ (schema : List Declaration) (txns : List Transaction) where
-  made_set : (rows : List InitRow) (written : List Row) → rows ≡ map (init_row schema) written → (g : Given) (work : Work) (l : Last) → g ≡ state (settings_of l) → work ≡ work_of schema txns l
+  pub made_set : (rows : List InitRow) (written : List Row) → rows ≡ map (init_row schema) written → (g : Given) (work : Work) (l : Last) → g ≡ state (settings_of l) → work ≡ work_of schema txns l
       → set_parts rows g work ≡ parts_of schema txns written l
   made_set rows written e g work l givens works = (λ i. set_parts (e i) (givens i) (works i))
       ∙ ap (λ n. let p : Parts = record {

@@ -32,4 +32,7 @@ pub mod NumberMarkLaws
 pub mod OnceLaws
 pub mod LineMarkLaws
 pub mod LineTurnLaws
+pub mod RightLaws
+pub mod SettingFitLaws
+pub mod StepFitLaws
 pub mod PartsFitLaws

@@ -17,7 +17,7 @@ use Rattle.sv_workload.specs.declared.written.Verb.{Verb}
 use Rattle.sv_workload.specs.declared.written.Verb.TheVariants as verbs
 use Rattle.sv_workload.specs.Grammar.{number, call, packet, line}
 use Rattle.sv_workload.specs.Reading.{verb_named, color_named, packet_tail, packet_at, closing, line_tail, line_at}
-use Rattle.sv_workload.specs.Written.{Sent, Blue, Red, Line, Ask, Order, Deliver, Settle, Catch, Show, Cut}
+use Rattle.sv_workload.specs.Written.{Sent, Blue, Red, Line, Ask, Order, Deliver, Settle, Catch, Show, Cut, Move}
 use Rattle.sv_workload.proofs.CallLaws.{call_law}
 use Rattle.sv_workload.proofs.SettingLaws.{count_law}
 use Rattle.sv_reader.proofs.MatterLaws.{bare}
@@ -44,6 +44,7 @@ verb_word verbs.Settle = codes "settle"
 verb_word verbs.Catch = codes "catch"
 verb_word verbs.Show = codes "show"
 verb_word verbs.Cut = codes "cut"
+verb_word verbs.Move = codes "move"
 
 pub verb_back : (bytes : List ℕ) (v : Verb) → verb_named bytes ≡ Some v → bytes ≡ verb_word v
 verb_back bytes v e =
@@ -53,7 +54,8 @@ verb_back bytes v e =
     (chosen bytes (codes "settle") verbs.Settle _ v (λ x. bytes ≡ verb_word x) (λ is. is)
     (chosen bytes (codes "catch") verbs.Catch _ v (λ x. bytes ≡ verb_word x) (λ is. is)
     (chosen bytes (codes "show") verbs.Show _ v (λ x. bytes ≡ verb_word x) (λ is. is)
-    (chosen bytes (codes "cut") verbs.Cut None v (λ x. bytes ≡ verb_word x) (λ is. is) (λ none. absurd cc))))))) e
+    (chosen bytes (codes "cut") verbs.Cut _ v (λ x. bytes ≡ verb_word x) (λ is. is)
+    (chosen bytes (codes "move") verbs.Move None v (λ x. bytes ≡ verb_word x) (λ is. is) (λ none. absurd cc)))))))) e
 
 pub verb_there : (v : Verb) → verb_named (verb_word v) ≡ Some v
 verb_there verbs.Ask = refl
@@ -63,6 +65,7 @@ verb_there verbs.Settle = refl
 verb_there verbs.Catch = refl
 verb_there verbs.Show = refl
 verb_there verbs.Cut = refl
+verb_there verbs.Move = refl
 
 abbrev pub color_word : Color → List ℕ
 color_word colors.Blue = codes "blue"
@@ -120,6 +123,7 @@ Tail verbs.Settle n = Made (λ (_ : Unit {0}). Settle n) (λ _. mark Semi)
 Tail verbs.Catch n = Made (λ (_ : Unit {0}). Catch n) (λ _. mark Semi)
 Tail verbs.Show n = Made (λ table. Show n table) (λ table. name table · mark Semi)
 Tail verbs.Cut n = Made (λ (_ : Unit {0}). Cut n) (λ _. mark Semi)
+Tail verbs.Move n = Made (λ site. Move n site) (λ site. number site · mark Semi)
 
 pub tail_law : (v : Verb) (n : ℕ) → Plain bare anything (Tail v n) (line_tail v n)
 tail_law verbs.Ask n = one_closed (λ c. Ask n c) call_law
@@ -129,6 +133,7 @@ tail_law verbs.Settle n = skip_last bare anything (Mark Semi) (Settle n)
 tail_law verbs.Catch n = skip_last bare anything (Mark Semi) (Catch n)
 tail_law verbs.Show n = one_closed (λ table. Show n table) (name_law bare anything)
 tail_law verbs.Cut n = skip_last bare anything (Mark Semi) (Cut n)
+tail_law verbs.Move n = one_closed (λ site. Move n site) count_law
 
 abbrev Numbered : Verb → Line → List Token → Type 0
 Numbered v = Then number (λ n. Tail v n)
@@ -147,6 +152,8 @@ line_join verbs.Catch n l front middle back w m t = subst (λ x. line x (front +
 line_join verbs.Show n l front middle back w m t = subst (λ x. line x (front ++ (middle ++ back))) (sym t.made)
     (record { front = front; back = middle ++ back; whole = refl; first = w; then = record { front = middle; back = back; whole = refl; first = m; then = t.is } })
 line_join verbs.Cut n l front middle back w m t = subst (λ x. line x (front ++ (middle ++ back))) (sym t.made)
+    (record { front = front; back = middle ++ back; whole = refl; first = w; then = record { front = middle; back = back; whole = refl; first = m; then = t.is } })
+line_join verbs.Move n l front middle back w m t = subst (λ x. line x (front ++ (middle ++ back))) (sym t.made)
     (record { front = front; back = middle ++ back; whole = refl; first = w; then = record { front = middle; back = back; whole = refl; first = m; then = t.is } })
 
 numbered_split : (v : Verb) (n : ℕ) (l : Line) (Rest : List Token → Type 0) (tokens : List Token) → ((back : List Token) → Rest back → Tail v n l back) → (word (verb_word v) · number n · Rest) tokens → Then (λ v. word (verb_word v)) Numbered l tokens
@@ -169,6 +176,7 @@ line_split (Settle n) tokens is = numbered_split verbs.Settle n (Settle n) (mark
 line_split (Catch n) tokens is = numbered_split verbs.Catch n (Catch n) (mark Semi) tokens (λ back t. record { «from» = tt; is = t; made = refl }) is
 line_split (Show n table) tokens is = numbered_split verbs.Show n (Show n table) (λ l. (name table · mark Semi) l) tokens (λ back t. record { «from» = table; is = t; made = refl }) is
 line_split (Cut n) tokens is = numbered_split verbs.Cut n (Cut n) (mark Semi) tokens (λ back t. record { «from» = tt; is = t; made = refl }) is
+line_split (Move n site) tokens is = numbered_split verbs.Move n (Move n site) (λ l. (number site · mark Semi) l) tokens (λ back t. record { «from» = site; is = t; made = refl }) is
 
 pub line_law : Plain bare anything line line_at
 unfolding line_at

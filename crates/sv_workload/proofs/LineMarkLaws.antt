@@ -23,11 +23,11 @@ use Rattle.sv_workload.specs.declared.written.Verb.TheVariants as verbs
 use Rattle.sv_workload.specs.Documents.{step_of}
 use Rattle.sv_workload.specs.Elements.{Refusals, Begins, IsMisplaced, AreNone}
 use Rattle.sv_workload.specs.Grammar.{number, packet, call, line}
-use Rattle.sv_workload.specs.LastRefused.{BeginsWord, IsOutside, CallRefused, asks, shows, total, session_words, site_words, LineRefused, TooManyAsks, TooManyShows, BadSession, BadSite, BadOrigin, BadSeq, BadSlot}
+use Rattle.sv_workload.specs.LastRefused.{BeginsWord, IsOutside, CallRefused, asks, shows, total, session_words, site_words, LineRefused, TooManyAsks, TooManyShows, BadSession, BadSite, BadOrigin, BadSeq, BadSlot, BadTarget}
 use Rattle.sv_workload.specs.LastRefused as last
 use Rattle.sv_workload.specs.LineReading.{verb_full, is_full, full_mark, most_number, tail_mark, number_mark, verb_mark, line_mark, line_from, step_asks, step_shows, with_step, is_more}
 use Rattle.sv_workload.specs.Reading.{verb_named, verb_of, line_at, out_mark, settled}
-use Rattle.sv_workload.specs.Written.{Line, Ask, Order, Deliver, Settle, Catch, Show, Cut}
+use Rattle.sv_workload.specs.Written.{Line, Ask, Order, Deliver, Settle, Catch, Show, Cut, Move}
 use Rattle.sv_workload.proofs.JudgeLaws.{Judged, judged_map}
 use Rattle.sv_workload.proofs.LastLaws.{line_some, line_none}
 use Rattle.sv_workload.proofs.LineLaws.{named, verb_word, verb_back, verb_there, color_word, Tail, tail_law, line_join, line_law}
@@ -56,10 +56,11 @@ record Spelled (sites : ℕ) (bytes : List ℕ) (most : ℕ) : Type 0 where
 session_word : (sites : ℕ) (bytes : List ℕ) → Contains session_words bytes → Spelled sites bytes 64
 session_word sites bytes has = by_place has.0 has.1 has.2
   where
-    by_place : (k : ℕ) → k < 2 → get_or session_words k bytes ≡ bytes → Spelled sites bytes 64
+    by_place : (k : ℕ) → k < 3 → get_or session_words k bytes ≡ bytes → Spelled sites bytes 64
     by_place zero lt e = record { verb = verbs.Ask; is = sym e; most_is = refl }
     by_place (suc zero) lt e = record { verb = verbs.Order; is = sym e; most_is = refl }
-    by_place (suc (suc k)) lt e = absurd (omega (arith, lt))
+    by_place (suc (suc zero)) lt e = record { verb = verbs.Move; is = sym e; most_is = refl }
+    by_place (suc (suc (suc k))) lt e = absurd (omega (arith, lt))
 
 site_word : (sites : ℕ) (bytes : List ℕ) → Contains site_words bytes → Spelled sites bytes sites
 site_word sites bytes has = by_place has.0 has.1 has.2
@@ -75,24 +76,26 @@ site_word sites bytes has = by_place has.0 has.1 has.2
 any_word : (bytes : List ℕ) → Contains (session_words ++ site_words) bytes → (v : Verb) × (bytes ≡ verb_word v)
 any_word bytes has = by_place has.0 has.1 has.2
   where
-    by_place : (k : ℕ) → k < 7 → get_or (session_words ++ site_words) k bytes ≡ bytes → (v : Verb) × (bytes ≡ verb_word v)
+    by_place : (k : ℕ) → k < 8 → get_or (session_words ++ site_words) k bytes ≡ bytes → (v : Verb) × (bytes ≡ verb_word v)
     by_place zero lt e = (verbs.Ask, sym e)
     by_place (suc zero) lt e = (verbs.Order, sym e)
-    by_place (suc (suc zero)) lt e = (verbs.Deliver, sym e)
-    by_place (suc (suc (suc zero))) lt e = (verbs.Settle, sym e)
-    by_place (suc (suc (suc (suc zero)))) lt e = (verbs.Catch, sym e)
-    by_place (suc (suc (suc (suc (suc zero))))) lt e = (verbs.Show, sym e)
-    by_place (suc (suc (suc (suc (suc (suc zero)))))) lt e = (verbs.Cut, sym e)
-    by_place (suc (suc (suc (suc (suc (suc (suc k))))))) lt e = absurd (omega (arith, lt))
+    by_place (suc (suc zero)) lt e = (verbs.Move, sym e)
+    by_place (suc (suc (suc zero))) lt e = (verbs.Deliver, sym e)
+    by_place (suc (suc (suc (suc zero)))) lt e = (verbs.Settle, sym e)
+    by_place (suc (suc (suc (suc (suc zero))))) lt e = (verbs.Catch, sym e)
+    by_place (suc (suc (suc (suc (suc (suc zero)))))) lt e = (verbs.Show, sym e)
+    by_place (suc (suc (suc (suc (suc (suc (suc zero))))))) lt e = (verbs.Cut, sym e)
+    by_place (suc (suc (suc (suc (suc (suc (suc (suc k)))))))) lt e = absurd (omega (arith, lt))
 
 pub word_any : (v : Verb) → Contains (session_words ++ site_words) (verb_word v)
 word_any verbs.Ask = (0, omega arith, refl)
 word_any verbs.Order = (1, omega arith, refl)
-word_any verbs.Deliver = (2, omega arith, refl)
-word_any verbs.Settle = (3, omega arith, refl)
-word_any verbs.Catch = (4, omega arith, refl)
-word_any verbs.Show = (5, omega arith, refl)
-word_any verbs.Cut = (6, omega arith, refl)
+word_any verbs.Move = (2, omega arith, refl)
+word_any verbs.Deliver = (3, omega arith, refl)
+word_any verbs.Settle = (4, omega arith, refl)
+word_any verbs.Catch = (5, omega arith, refl)
+word_any verbs.Show = (6, omega arith, refl)
+word_any verbs.Cut = (7, omega arith, refl)
 
 -- what a step may begin with
 
@@ -133,7 +136,7 @@ module _ (schema : List Declaration) (txns : List Transaction) where
   abbrev pub state : List Line → Steps
   state before = record { steps = map (step_of schema txns) before; asks = total asks before; shows = total shows before }
 
-  asks_same : (l : Line) → asks l ≡ step_asks (step_of schema txns l)
+  pub asks_same : (l : Line) → asks l ≡ step_asks (step_of schema txns l)
   asks_same (Ask n c) = refl
   asks_same (Order n) = refl
   asks_same (Deliver n p) = refl
@@ -141,6 +144,7 @@ module _ (schema : List Declaration) (txns : List Transaction) where
   asks_same (Catch n) = refl
   asks_same (Show n t) = refl
   asks_same (Cut n) = refl
+  asks_same (Move n s) = refl
 
   pub shows_same : (l : Line) → shows l ≡ step_shows (step_of schema txns l)
   shows_same (Ask n c) = refl
@@ -150,6 +154,7 @@ module _ (schema : List Declaration) (txns : List Transaction) where
   shows_same (Catch n) = refl
   shows_same (Show n t) = refl
   shows_same (Cut n) = refl
+  shows_same (Move n s) = refl
 
   abbrev pub with_line : Steps → Line → Steps
   with_line s l = with_step s (step_of schema txns l)
@@ -194,6 +199,7 @@ module _ (schema : List Declaration) (txns : List Transaction) where
       by_verb verbs.Settle t = absurd cc
       by_verb verbs.Catch t = absurd cc
       by_verb verbs.Cut t = absurd cc
+      by_verb verbs.Move t = absurd cc
 
       by_steps : (b : Bool) → nat_le 65536 (length (map (step_of schema txns) before)) ≡ b → b || verb_full (state before) v ≡ true → Crowded before v
       by_steps true t e = Steps' v (let le = true_le 65536 (length (map (step_of schema txns) before)) t in omega (arith, le, length-map before (step_of schema txns)))
@@ -206,6 +212,7 @@ module _ (schema : List Declaration) (txns : List Transaction) where
     TailRefused verbs.Ask rest code here = CallRefused txns rest code here
     TailRefused verbs.Deliver rest code here = PacketRefused sites rest code here
     TailRefused verbs.Show rest code here = TableRefused schema rest code here
+    TailRefused verbs.Move rest code here = OutAt codes_of.BadStep 1 sites rest code here
     TailRefused _ rest code here = ⊥
 
     tail_marks : (token found : Token) (v : Verb) (n : ℕ) (rest : List Token) → token.kind ≡ Name (verb_word v) → found.kind ≡ Number (pos n)
@@ -213,6 +220,8 @@ module _ (schema : List Declaration) (txns : List Transaction) where
     tail_marks token found verbs.Ask n rest w k = lift_marks (token ∷ found ∷ []) rest (part_begins call token found verbs.Ask n (λ c. Ask n c) w k (λ c l is. record { «from» = c; is = is; made = refl })) (asked_marks txns rest)
     tail_marks token found verbs.Deliver n rest w k = lift_marks (token ∷ found ∷ []) rest (part_begins packet token found verbs.Deliver n (λ s. Deliver n s) w k (λ s l is. record { «from» = s; is = is; made = refl })) (packet_marks sites rest)
     tail_marks token found verbs.Show n rest w k = lift_marks (token ∷ found ∷ []) rest (part_begins name token found verbs.Show n (λ t. Show n t) w k (λ t l is. record { «from» = t; is = is; made = refl })) (table_marks schema rest)
+    tail_marks token found verbs.Move n rest w k = lift_marks (token ∷ found ∷ []) rest (part_begins number token found verbs.Move n (λ s. Move n s) w k (λ s l is. record { «from» = s; is = is; made = refl }))
+        (out_marks number rest [] rest codes_of.BadStep 1 sites refl (λ site s is. record { more = []; item = s; is = record { token = site; only = refl; holds = is } }))
     tail_marks token found verbs.Order n rest w k = no_marks line (token ∷ found ∷ rest)
     tail_marks token found verbs.Settle n rest w k = no_marks line (token ∷ found ∷ rest)
     tail_marks token found verbs.Catch n rest w k = no_marks line (token ∷ found ∷ rest)
@@ -222,6 +231,7 @@ module _ (schema : List Declaration) (txns : List Transaction) where
     tail_within verbs.Ask rest code here is = (asked_marks txns rest).within code here is
     tail_within verbs.Deliver rest code here is = (packet_marks sites rest).within code here is
     tail_within verbs.Show rest code here is = (table_marks schema rest).within code here is
+    tail_within verbs.Move rest code here is = omega (arith, ap length is.1)
     tail_within verbs.Order rest code here is = absurd is
     tail_within verbs.Settle rest code here is = absurd is
     tail_within verbs.Catch rest code here is = absurd is
@@ -347,6 +357,9 @@ module _ (schema : List Declaration) (txns : List Transaction) where
             is = n.is;
             refused = record { color = colors.Red; word = n.rest.token; others = here; whole = ap (λ l. l ++ here) n.rest.only; is = n.rest.holds; refused = (refl, refl, out) };
           })))
+      sorted token others _ _ all e (BadTarget of front here w is out) =
+          let n = numbered_last (codes "move") of token others front here (sym e ∙ w) is in
+          Worded verbs.Move n.0 (inr (inr (record { n = of; front = n.1; rest = here; whole = n.2; is = n.3; refused = (refl, refl, out) })))
       sorted token others _ _ all e (last.NoTable at front here table w is begins none) =
           let n = numbered_last (codes "show") at token others front here (sym e ∙ w) is in
           Worded verbs.Show n.0 (inr (inr (record { n = at; front = n.1; rest = here; whole = n.2; is = n.3; refused = (refl, refl, (table, begins, none)) })))
@@ -365,7 +378,7 @@ module _ (schema : List Declaration) (txns : List Transaction) where
         crowd_in _ w (Asks' le) = TooManyAsks w le
         crowd_in _ w (Shows' le) = TooManyShows w le
 
-        session_in : (k : ℕ) → k < 2 → (bytes : List ℕ) → get_or session_words k bytes ≡ bytes → token.kind ≡ Name bytes → IsOutside 1 64 others → Refused codes_of.BadStep others
+        session_in : (k : ℕ) → k < 3 → (bytes : List ℕ) → get_or session_words k bytes ≡ bytes → token.kind ≡ Name bytes → IsOutside 1 64 others → Refused codes_of.BadStep others
         session_in k lt bytes e w out = BadSession bytes (token ∷ []) others refl (k, lt, e) (record { token = token; only = refl; holds = w }) out
 
         site_in : (k : ℕ) → k < 5 → (bytes : List ℕ) → get_or site_words k bytes ≡ bytes → token.kind ≡ Name bytes → IsOutside 1 sites others → Refused codes_of.BadStep others
@@ -374,6 +387,7 @@ module _ (schema : List Declaration) (txns : List Transaction) where
         number_in : (v : Verb) → token.kind ≡ Name (verb_word v) → IsOutside 1 (most_number sites v) others → Refused codes_of.BadStep others
         number_in verbs.Ask w out = session_in 0 (omega arith) (codes "ask") refl w out
         number_in verbs.Order w out = session_in 1 (omega arith) (codes "order") refl w out
+        number_in verbs.Move w out = session_in 2 (omega arith) (codes "move") refl w out
         number_in verbs.Deliver w out = site_in 0 (omega arith) (codes "deliver") refl w out
         number_in verbs.Settle w out = site_in 1 (omega arith) (codes "settle") refl w out
         number_in verbs.Catch w out = site_in 2 (omega arith) (codes "catch") refl w out
@@ -416,6 +430,8 @@ module _ (schema : List Declaration) (txns : List Transaction) where
         tail_in verbs.Deliver w code here b = packet_in w code here b
         tail_in verbs.Show w code here b = subst (λ k. Refused k here) (sym b.refused.0) (subst (λ l. Refused codes_of.Unknown l) (sym b.refused.1)
             (last.NoTable b.n (token ∷ b.front) b.rest b.refused.2.0 (ap (λ l. token ∷ l) b.whole) (word_number (codes "show") b.n b.front w b.is) b.refused.2.1 b.refused.2.2))
+        tail_in verbs.Move w code here b = subst (λ k. Refused k here) (sym b.refused.0) (subst (λ l. Refused codes_of.BadStep l) (sym b.refused.1)
+            (BadTarget b.n (token ∷ b.front) b.rest (ap (λ l. token ∷ l) b.whole) (word_number (codes "move") b.n b.front w b.is) b.refused.2))
         tail_in verbs.Order w code here b = absurd b.refused
         tail_in verbs.Settle w code here b = absurd b.refused
         tail_in verbs.Catch w code here b = absurd b.refused

@@ -22,7 +22,7 @@ use Rattle.sv_workload.specs.Documents.{step_of}
 use Rattle.sv_workload.specs.Grammar.{number, packet, line}
 use Rattle.sv_workload.specs.LineReading.{line_of, full_mark, most_number, most_packet, sent_mark, packet_mark, tail_mark, number_mark, verb_mark, line_mark, line_from, lines_from, step_asks, step_shows, with_step, no_steps, is_more, IsSite, IsBoundedPacket, IsBoundedLine, IsCounted}
 use Rattle.sv_workload.specs.Reading.{natural_of, count_at, is_out, out_mark, from_read, or_else, line_at, as_item}
-use Rattle.sv_workload.specs.Written.{Sent, Blue, Red, Line, Ask, Order, Deliver, Settle, Catch, Show, Cut}
+use Rattle.sv_workload.specs.Written.{Sent, Blue, Red, Line, Ask, Order, Deliver, Settle, Catch, Show, Cut, Move}
 use Rattle.sv_workload.proofs.LineLaws.{verb_word, line_law}
 use Rattle.sv_workload.proofs.LineMarkLaws.{verb_is, line_steps, line_shrinks}
 use Rattle.sv_workload.proofs.LoopLaws.{more, fault, end}
@@ -64,6 +64,7 @@ counted_with s step is = let a = asks_few step in let b = shows_few step in reco
     asks_few (steps.Catch n) = omega arith
     asks_few (steps.Show n t) = omega arith
     asks_few (steps.ShowCut n) = omega arith
+    asks_few (steps.Move n s) = omega arith
 
     shows_few : (step : Step) → step_shows step ≤ 1
     shows_few (steps.Ask n c) = omega arith
@@ -73,6 +74,7 @@ counted_with s step is = let a = asks_few step in let b = shows_few step in reco
     shows_few (steps.Catch n) = omega arith
     shows_few (steps.Show n t) = omega arith
     shows_few (steps.ShowCut n) = omega arith
+    shows_few (steps.Move n s) = omega arith
 
 pub ruleset lines = (lines_more, lines_less, lines_err, lines_end, counted_none, counted_with)
 
@@ -167,6 +169,11 @@ module _ (schema : List Declaration) (txns : List Transaction) (sites : ℕ) (s 
       by_line (Catch n) front w is = let b = within verbs.Catch n _ tokens front rest e w is in site n b.least b.most
       by_line (Show n t) front w is = let b = within verbs.Show n _ tokens front rest e w is in site n b.least b.most
       by_line (Cut n) front w is = let b = within verbs.Cut n _ tokens front rest e w is in site n b.least b.most
+      by_line (Move n s) front w is =
+          let b = within verbs.Move n _ tokens front rest e w is in
+          let bounds = in_bounds BadStep 1 sites s (is.then.back ++ rest) is.then.then.front (is.then.then.back ++ rest) b.none
+          (ap (λ l. l ++ rest) is.then.then.whole ∙ append_assoc is.then.then.front is.then.then.back rest) is.then.then.first in
+          (b.most, site s bounds.0 bounds.1)
 
 pub step_bounded : (schema : List Declaration) (txns : List Transaction) (sites : ℕ) (s : Steps) (step : PlainStep) (tokens rest : List Token) → sites ≤ 8 → line_mark schema txns sites s tokens ≡ None → line_at tokens ≡ Ok (line_of step, rest) → IsBoundedLine (line_of step)
 step_bounded schema txns sites s step tokens rest few e read = line_bounded schema txns sites s (line_of step) tokens rest few e read

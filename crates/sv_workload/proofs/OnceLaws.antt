@@ -1,5 +1,5 @@
--- A document gets one refusal, or is read.
-use Rattle.std.proofs.Common.{◌≡◌, ◌∙◌, ℕ, ◌-◌, ◌<◌, ◌≤◌, ◌⊎◌, inl, inr, List, length, map, drop, Some, Ok, refl, sym, ap, subst, arith}
+-- A document gets one refusal, or is read in one way.
+use Rattle.std.proofs.Common.{◌≡◌, ◌≢◌, ◌∙◌, ℕ, suc, ◌-◌, ◌<◌, ◌≤◌, max, ◌⊎◌, inl, inr, List, [], ◌∷◌, length, map, drop, Some, Ok, Err, refl, sym, ap, subst, arith}
 use Rattle.std.specs.List.{slice_get}
 use Rattle.std.proofs.lemmas.List.{length-map}
 use Rattle.sv_value.specs.declared.spots.Spot.{Spot}
@@ -19,17 +19,26 @@ use Rattle.sv_reader.specs.Places.{spot_of}
 use Rattle.sv_reader.specs.Reading.{Read, IsLeft}
 use Rattle.sv_workload.specs.declared.parts.Parts.{Parts}
 use Rattle.sv_workload.specs.declared.written.Row.{Row}
-use Rattle.sv_workload.specs.Documents.{AreRows, AreGood, AreParts, IsRefused, InInit, ByInvariant, InLast}
-use Rattle.sv_workload.specs.Elements.{Refusals, IsFirst}
+use Rattle.sv_workload.specs.declared.parts.Work.{Work}
+use Rattle.sv_workload.specs.declared.parts.Work.TheVariants as works
+use Rattle.sv_workload.specs.declared.written.Given.{Given}
+use Rattle.sv_workload.specs.declared.written.PartHead.TheVariants.{Replay as ReplayHead, Run as RunHead}
+use Rattle.sv_workload.specs.Documents.{parts_of, AreRows, AreGood, AreParts, IsRefused, InInit, ByInvariant, InLast}
+use Rattle.sv_workload.specs.Elements.{Refusals, IsFirst, AreNone}
+use Rattle.sv_workload.specs.Grammar.{last_part}
 use Rattle.sv_workload.specs.LastRefused.{LastRefused}
 use Rattle.sv_workload.specs.Laws.{IsSame, RefusedOnce}
 use Rattle.sv_workload.specs.Reading.{init_from}
 use Rattle.sv_workload.specs.Rows.{init_row}
-use Rattle.sv_workload.proofs.DocumentLaws.{suffix_at}
+use Rattle.sv_workload.specs.Stops.{last_from}
+use Rattle.sv_workload.specs.Written.{Last, Absent, Replay, Run}
+use Rattle.sv_workload.proofs.DocumentLaws.{suffix_at, no_head}
 use Rattle.sv_workload.proofs.InitLaws.{init_judged}
 use Rattle.sv_workload.proofs.JudgeLaws.{Alike, reads}
 use Rattle.sv_workload.proofs.KeptLaws.{rows_distinct}
+use Rattle.sv_workload.proofs.LastPartLaws.{made_set}
 use Rattle.sv_workload.proofs.SuffixLaws.{Suffix, init_suffix, last_suffix}
+use Rattle.sv_workload.proofs.WorkLaws.{last_fails, last_only, last_reads, last_wrong}
 
 -- two refusals that are the first
 
@@ -113,3 +122,41 @@ parts_apart schema transactions tokens end refusal p are (InLast rows rest code 
     let count : length rows ≡ length are.rows = sym (length-map rows (init_row schema)) ∙ ap length same.items ∙ length-map are.rows (init_row schema) in
     let here_is : IsFirst (LastRefused schema transactions (length are.rows) are.rest) code here = subst (λ (x : ℕ × List Token). IsFirst (LastRefused schema transactions x.0 x.1) code here) (λ i. (count i, same.rests i)) first in
     are.right code here here_is.is
+
+-- where nothing stands there is no last part
+absent_only : (l : Last) → last_part l [] → l ≡ Absent
+absent_only Absent is = refl
+absent_only (Replay settings ls) is = absurd (no_head ReplayHead is.front is.back is.whole is.first)
+absent_only (Run settings sessions) is = absurd (no_head RunHead is.front is.back is.whole is.first)
+
+-- a last part of which nothing is refused is read in one way
+last_once : (schema : List Declaration) (txns : List Transaction) (rows others : List Row) (rest : List Token) (l m : Last) → map (init_row schema) rows ≡ map (init_row schema) others
+    → last_part l rest → last_part m rest → AreNone (LastRefused schema txns (length rows) rest) → parts_of schema txns rows l ≡ parts_of schema txns others m
+last_once schema txns rows others [] l m same is are right = alike (absent_only l is) (absent_only m are)
+  where
+    count : length rows ≡ length others
+    count = sym (length-map rows (init_row schema)) ∙ ap length same ∙ length-map others (init_row schema)
+
+    alike : l ≡ Absent → m ≡ Absent → parts_of schema txns rows l ≡ parts_of schema txns others m
+    alike a b = ap (parts_of schema txns rows) a
+        ∙ (λ i. record { init = same i; sites = 1; rows = max 1024 (count i); changes = 8192; work = works.Nothing })
+        ∙ sym (ap (parts_of schema txns others) b)
+last_once schema txns rows others (token ∷ rest) l m same is are right = by (last_from schema txns (length rows) (token ∷ rest)) refl
+  where
+    some : token ∷ rest ≢ []
+    some e = let bad : suc (length rest) ≡ 0 = ap length e in absurd (omega (arith, bad))
+
+    by : (read : Read (Given × Work)) → last_from schema txns (length rows) (token ∷ rest) ≡ read → parts_of schema txns rows l ≡ parts_of schema txns others m
+    by (Err fault) e =
+        let found = last_wrong schema txns (length rows) (token ∷ rest) some fault (last_fails schema txns (length rows) (token ∷ rest) fault e) in absurd (right fault.code found.here found.first.is)
+    by (Ok ((g, work), left)) e =
+        let read = last_reads schema txns (length rows) (token ∷ rest) g work left e in
+        let one = last_only schema txns (length rows) (token ∷ rest) g work read l is in
+        let other = last_only schema txns (length rows) (token ∷ rest) g work read m are in
+        sym (made_set schema txns (map (init_row schema) rows) rows refl g work l one.0 one.1)
+        ∙ made_set schema txns (map (init_row schema) rows) others same g work m other.0 other.1
+
+pub parts_once : (schema : List Declaration) (txns : List Transaction) (tokens : List Token) (p q : Parts) → AreParts schema txns tokens p → AreParts schema txns tokens q → p ≡ q
+parts_once schema txns tokens p q a b =
+    let same = rows_once schema tokens a.rows b.rows a.rest b.rest a.init.read b.init.read in
+    a.made ∙ last_once schema txns a.rows b.rows a.rest a.last b.last same.items a.is (subst (last_part b.last) (sym same.rests) b.is) a.right ∙ sym b.made

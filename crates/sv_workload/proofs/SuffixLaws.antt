@@ -8,7 +8,7 @@ use Rattle.sv_workload.specs.Elements.{Refusals, Among, Here, Behind}
 use Rattle.sv_workload.specs.declared.written.Call.{Call}
 use Rattle.sv_workload.specs.declared.written.Setting.{Setting}
 use Rattle.sv_workload.specs.Grammar.{row, setting, line, entry, session}
-use Rattle.sv_workload.specs.LastRefused.{CallRefused, NoTxn, LongList, LineRefused, TooManyAsks, TooManyShows, BadSession, BadSite, BadOrigin, BadSeq, BadSlot, EntryRefused, SessionRefused, BadNumber, InCalls, NoEnd, requests_in, SettingRefused, Outside, sites_set, LastRefused, NoPart, InSettings, NoSites, InLines, InSessions}
+use Rattle.sv_workload.specs.LastRefused.{CallRefused, NoTxn, LongList, LineRefused, TooManyAsks, TooManyShows, BadSession, BadSite, BadOrigin, BadSeq, BadSlot, BadTarget, EntryRefused, SessionRefused, BadNumber, InCalls, NoEnd, requests_in, SettingRefused, Outside, sites_set, LastRefused, NoPart, InSettings, NoSites, InLines, InSessions}
 use Rattle.sv_workload.specs.LastRefused as last
 use Rattle.sv_workload.specs.Written.{Line, Session}
 use Rattle.sv_app.specs.Trees.{Transaction}
@@ -56,6 +56,7 @@ line_suffix schema txns sites before tokens _ _ (BadSite bytes front here w has 
 line_suffix schema txns sites before tokens _ _ (BadOrigin at front here w is out) = record { front = front; whole = w }
 line_suffix schema txns sites before tokens _ _ (BadSeq at origin front here w is out) = record { front = front; whole = w }
 line_suffix schema txns sites before tokens _ _ (BadSlot at front here w is out) = record { front = front; whole = w }
+line_suffix schema txns sites before tokens _ _ (BadTarget of front here w is out) = record { front = front; whole = w }
 line_suffix schema txns sites before tokens _ _ (last.NoTable at front here table w is begins none) = record { front = front; whole = w }
 line_suffix schema txns sites before tokens _ _ (last.InCall n front rest code here w is refused) = behind tokens front rest here w (call_suffix txns rest code here refused)
 

@@ -33,7 +33,7 @@ use Rattle.sv_workload.specs.declared.written.Row.{Row}
 use Rattle.sv_workload.specs.declared.written.Call.{Call}
 use Rattle.sv_workload.specs.declared.written.Setting.{Setting}
 use Rattle.sv_workload.specs.declared.written.Setting.TheVariants.{Sites, Rows, Changes}
-use Rattle.sv_workload.specs.Written.{Sent, Blue, Red, Line, Ask, Order, Deliver, Settle, Catch, Show, Cut, Session, Last, Absent, Replay, Run}
+use Rattle.sv_workload.specs.Written.{Sent, Blue, Red, Line, Ask, Order, Deliver, Settle, Catch, Show, Cut, Move, Session, Last, Absent, Replay, Run}
 
 -- what a written call, packet and step stand for
 abbrev pub request_of : List Transaction → Call → Request
@@ -51,6 +51,7 @@ step_of schema txns (Settle site) = steps.Settle site
 step_of schema txns (Catch site) = steps.Catch site
 step_of schema txns (Show site table) = steps.Show site (table_number schema table)
 step_of schema txns (Cut site) = steps.ShowCut site
+step_of schema txns (Move session site) = steps.Move session site
 
 abbrev pub settings_of : Last → List (Setting × ℕ)
 settings_of Absent = []

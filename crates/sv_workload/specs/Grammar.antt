@@ -12,7 +12,7 @@ use Rattle.sv_workload.specs.declared.written.Row.{Row}
 use Rattle.sv_workload.specs.declared.written.Call.{Call}
 use Rattle.sv_workload.specs.declared.written.Setting.{Setting}
 use Rattle.sv_workload.specs.declared.written.Setting.TheVariants.{Sites, Rows, Changes}
-use Rattle.sv_workload.specs.Written.{Sent, Blue, Red, Line, Ask, Order, Deliver, Settle, Catch, Show, Cut, Session, Last, Absent, Replay, Run}
+use Rattle.sv_workload.specs.Written.{Sent, Blue, Red, Line, Ask, Order, Deliver, Settle, Catch, Show, Cut, Move, Session, Last, Absent, Replay, Run}
 
 -- {x}
 abbrev pub many : {A : Type 0} → (A → List Token → Type 0) → List A → List Token → Type 0
@@ -83,6 +83,7 @@ line (Settle site) = word (codes "settle") · number site · mark Semi
 line (Catch site) = word (codes "catch") · number site · mark Semi
 line (Show site table) = word (codes "show") · number site · name table · mark Semi
 line (Cut site) = word (codes "cut") · number site · mark Semi
+line (Move session site) = word (codes "move") · number session · number site · mark Semi
 
 -- "session" NUMBER "{"
 abbrev pub session_head : ℕ → List Token → Type 0

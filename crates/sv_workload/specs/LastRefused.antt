@@ -111,7 +111,7 @@ total count (a ∷ rest) = count a + total count rest
 
 -- the words before the number of a session, and before that of a site
 abbrev pub session_words : List (List ℕ)
-session_words = codes "ask" ∷ codes "order" ∷ []
+session_words = codes "ask" ∷ codes "order" ∷ codes "move" ∷ []
 
 abbrev pub site_words : List (List ℕ)
 site_words = codes "deliver" ∷ codes "settle" ∷ codes "catch" ∷ codes "show" ∷ codes "cut" ∷ []
@@ -131,6 +131,8 @@ pub data LineRefused (schema : List Declaration) (txns : List Transaction) (site
   BadSeq : (at origin : ℕ) (front here : List Token) → tokens ≡ front ++ here → (word (codes "deliver") · number at · word (codes "blue") · number origin) front
       → IsOutside 0 4294967295 here → LineRefused schema txns sites before tokens code.BadStep here
   BadSlot : (at : ℕ) (front here : List Token) → tokens ≡ front ++ here → (word (codes "deliver") · number at · word (codes "red")) front → IsOutside 0 4294967295 here
+      → LineRefused schema txns sites before tokens code.BadStep here
+  BadTarget : (of : ℕ) (front here : List Token) → tokens ≡ front ++ here → (word (codes "move") · number of) front → IsOutside 1 sites here
       → LineRefused schema txns sites before tokens code.BadStep here
   NoTable : (at : ℕ) (front here : List Token) (table : Ident) → tokens ≡ front ++ here → (word (codes "show") · number at) front → BeginsName table here → table_of schema table ≡ None
       → LineRefused schema txns sites before tokens code.Unknown here

@@ -21,7 +21,7 @@ use Rattle.sv_workload.specs.declared.written.Verb.{Verb}
 use Rattle.sv_workload.specs.declared.written.Verb.TheVariants as verbs
 use Rattle.sv_workload.specs.Documents.{step_of}
 use Rattle.sv_workload.specs.Reading.{settled, or_else, out_mark, count_at, from_read, call_mark, color_of, verb_of, line_at}
-use Rattle.sv_workload.specs.Written.{Sent, Blue, Red, Line, Ask, Order, Deliver, Settle, Catch, Show, Cut}
+use Rattle.sv_workload.specs.Written.{Sent, Blue, Red, Line, Ask, Order, Deliver, Settle, Catch, Show, Cut, Move}
 
 -- a step as it was read, before its numbers are known to keep their bounds
 abbrev pub sent_of : PlainPacket → Sent
@@ -36,6 +36,7 @@ line_of (plain_steps.Settle site) = Settle site
 line_of (plain_steps.Catch site) = Catch site
 line_of (plain_steps.Show site table) = Show site table
 line_of (plain_steps.ShowCut site) = Cut site
+line_of (plain_steps.Move session site) = Move session site
 
 -- no step of this kind may stand behind so many
 abbrev pub verb_full : Steps → Verb → Bool
@@ -53,6 +54,7 @@ full_mark s verb tokens = given (is_full s verb) (record { code = Many; left = l
 abbrev pub most_number : ℕ → Verb → ℕ
 most_number sites verbs.Ask = 64
 most_number sites verbs.Order = 64
+most_number sites verbs.Move = 64
 most_number sites _ = sites
 
 -- the greatest number of a packet
@@ -87,6 +89,7 @@ abbrev pub tail_mark : List Declaration → List Transaction → ℕ → Verb �
 tail_mark schema txns sites verbs.Ask tokens = asked_mark txns tokens
 tail_mark schema txns sites verbs.Deliver tokens = packet_mark sites tokens
 tail_mark schema txns sites verbs.Show tokens = table_mark schema tokens
+tail_mark schema txns sites verbs.Move tokens = out_mark BadStep 1 sites tokens
 tail_mark schema txns sites _ tokens = None
 
 -- what is refused behind the first word of a step
@@ -145,6 +148,7 @@ IsBoundedLine (Settle site) = IsSite site
 IsBoundedLine (Catch site) = IsSite site
 IsBoundedLine (Show site table) = IsSite site
 IsBoundedLine (Cut site) = IsSite site
+IsBoundedLine (Move session site) = (session ≤ 64) × IsSite site
 
 -- no more asks and shows than steps
 pub record IsCounted (s : Steps) : Type 0 where

@@ -38,7 +38,7 @@ use Rattle.sv_workload.specs.declared.written.Verb.{Verb}
 use Rattle.sv_workload.specs.declared.written.Verb.TheVariants as verbs
 use Rattle.sv_workload.specs.Fits.{txn_of}
 use Rattle.sv_workload.specs.LastRefused.{least_of, most_of}
-use Rattle.sv_workload.specs.Written.{Sent, Blue, Red, Line, Ask, Order, Deliver, Settle, Catch, Show, Cut}
+use Rattle.sv_workload.specs.Written.{Sent, Blue, Red, Line, Ask, Order, Deliver, Settle, Catch, Show, Cut, Move}
 use Rattle.sv_workload.specs.Rows.{init_row}
 
 -- a fault that is known before anything is read comes first
@@ -280,7 +280,7 @@ verb_named word =
     if bytes_eq word (codes "ask") then Some verbs.Ask else if bytes_eq word (codes "order") then Some verbs.Order
     else if bytes_eq word (codes "deliver") then Some verbs.Deliver else if bytes_eq word (codes "settle") then Some verbs.Settle
     else if bytes_eq word (codes "catch") then Some verbs.Catch else if bytes_eq word (codes "show") then Some verbs.Show
-    else if bytes_eq word (codes "cut") then Some verbs.Cut else None
+    else if bytes_eq word (codes "cut") then Some verbs.Cut else if bytes_eq word (codes "move") then Some verbs.Move else None
 
 abbrev pub verb_of : Token → Option Verb
 verb_of token = by_word verb_named token.kind
@@ -311,6 +311,7 @@ line_tail verbs.Settle n tokens = closing (Settle n) tokens
 line_tail verbs.Catch n tokens = closing (Catch n) tokens
 line_tail verbs.Show n tokens = name_at tokens >>= λ table r. closing (Show n table) r
 line_tail verbs.Cut n tokens = closing (Cut n) tokens
+line_tail verbs.Move n tokens = count_at tokens >>= λ site r. closing (Move n site) r
 
 unfoldable pub line_at : List Token → Read Line
 line_at tokens = token_at verb_of tokens >>= λ verb r1. count_at r1 >>= λ n r2. line_tail verb n r2

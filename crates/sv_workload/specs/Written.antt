@@ -16,6 +16,7 @@ pub data Line : Type 0 where
   Catch : ℕ → Line
   Show : ℕ → Ident → Line
   Cut : ℕ → Line
+  Move : ℕ → ℕ → Line
 
 pub record Session : Type 0 where
   pub number : ℕ

@@ -39,7 +39,7 @@ fn most_number(sites: u64, verb: Verb) -> u64
     ensures { result ≡ most_number sites verb }
 {
     match verb {
-        Verb::Ask | Verb::Order => MOST_SESSIONS as u64,
+        Verb::Ask | Verb::Order | Verb::Move => MOST_SESSIONS as u64,
         _ => sites,
     }
 }
@@ -124,6 +124,7 @@ fn tail_mark(
         Verb::Ask => asked_mark(alloc, &app.txns, tokens),
         Verb::Deliver => Ok(packet_mark(sites, tokens)),
         Verb::Show => Ok(table_mark(&app.tables, tokens)),
+        Verb::Move => Ok(out_mark(Code::BadStep, 1, sites, tokens)),
         _ => Ok(None),
     }
 }

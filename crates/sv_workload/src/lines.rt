@@ -36,6 +36,7 @@ pub enum PlainStep {
     Catch { site: u64 },
     Show { site: u64, table: Ident },
     ShowCut { site: u64 },
+    Move { session: u64, site: u64 },
 }
 
 /// Steps that were read, and how many of them ask or show.
@@ -63,6 +64,8 @@ fn verb_named(word: &[u8]) -> Option<Verb>
         Some(Verb::Show)
     } else if word == b"cut".as_slice() {
         Some(Verb::Cut)
+    } else if word == b"move".as_slice() {
+        Some(Verb::Move)
     } else {
         None
     }
@@ -172,6 +175,10 @@ fn line_tail(
             table: reader.name()?,
         },
         Verb::Cut => PlainStep::ShowCut { site: number },
+        Verb::Move => PlainStep::Move {
+            session: number,
+            site: count(reader)?,
+        },
     };
     reader.mark(Mark::Semi)?;
     Ok(step)
@@ -251,6 +258,10 @@ pub fn step_of(tables: &[Table], txns: &[Txn], step: PlainStep) -> Step
             table: table_number(tables, &table),
         },
         PlainStep::ShowCut { site } => Step::ShowCut {
+            site: site_of(site),
+        },
+        PlainStep::Move { session, site } => Step::Move {
+            session: session as u16,
             site: site_of(site),
         },
     }

@@ -18,6 +18,8 @@ pub enum Step {
     Show { site: Site, table: u16 },
     /// What a site has applied is shown.
     ShowCut { site: Site },
+    /// A session goes to a site.
+    Move { session: u16, site: Site },
 }
 
 /// What a document asks for: nothing, the steps of a replay, or the requests of each session.

@@ -18,6 +18,7 @@ pub enum Verb {
     Catch,
     Show,
     Cut,
+    Move,
 }
 
 /// What a packet begins with.
