@@ -24,7 +24,7 @@ order (suc a) (suc b) = up (order a b)
     up (same e) = same (ap suc e)
     up (above l) = above (omega (arith, l))
 
-same_missing : (cut deps : ℕ → ℕ) (p q : Packet) → IsFirstMissing cut deps p → IsFirstMissing cut deps q → p ≡ q
+pub same_missing : (cut deps : ℕ → ℕ) (p q : Packet) → IsFirstMissing cut deps p → IsFirstMissing cut deps q → p ≡ q
 same_missing cut deps (Blue s n) (Blue t m) (s_from, n_is, s_short, s_first) (t_from, m_is, t_short, t_first) = by (order s t)
   where
     by : Order s t → Blue s n ≡ Blue t m
@@ -35,11 +35,11 @@ same_missing cut deps (Blue s n) (Red m) (s_from, n_is, s_short, s_first) (m_is,
 same_missing cut deps (Red n) (Blue t m) (n_is, short, none) (t_from, m_is, t_short, t_first) = absurd (omega (arith, t_short, none t t_from))
 same_missing cut deps (Red n) (Red m) (n_is, n_short, n_none) (m_is, m_short, m_none) = ap Red (n_is ∙ sym m_is)
 
-not_covered : (cut deps : ℕ → ℕ) (p : Packet) → IsFirstMissing cut deps p → Covers cut deps → ⊥
+pub not_covered : (cut deps : ℕ → ℕ) (p : Packet) → IsFirstMissing cut deps p → Covers cut deps → ⊥
 not_covered cut deps (Blue s n) (s_from, n_is, s_short, s_first) covers = omega (arith, s_short, covers s)
 not_covered cut deps (Red n) (n_is, short, none) covers = omega (arith, short, covers 0)
 
-only_cause : (cut deps : ℕ → ℕ) (packet : Packet) (a b : Readiness) → IsCause cut deps packet a → IsCause cut deps packet b → a ≡ b
+pub only_cause : (cut deps : ℕ → ℕ) (packet : Packet) (a b : Readiness) → IsCause cut deps packet a → IsCause cut deps packet b → a ≡ b
 only_cause cut deps packet Duplicate Duplicate x y = refl
 only_cause cut deps packet Duplicate Now x y = absurd (y.0 x)
 only_cause cut deps packet Duplicate (Early q) x y = absurd (y.0 x)

@@ -5,4 +5,4 @@ mod inboxes;
 mod readiness;
 
 pub use inboxes::Inbox;
-pub use readiness::{Readiness, ready};
+pub use readiness::{Readiness, first_missing, ready};

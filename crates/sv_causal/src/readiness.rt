@@ -31,7 +31,7 @@ fn blue_at(place: usize, seq: u32) -> Packet
 
 /// The first packet that the cut lacks of what is asked for; `None` where it covers that.
 #[tactic(auto, using(crate::proofs::MissingLaws::missing))]
-fn first_missing(cut: &Cut, deps: &Cut) -> Option<Packet>
+pub fn first_missing(cut: &Cut, deps: &Cut) -> Option<Packet>
     ensures { IsMissing (counts cut.now) (counts deps.now) result }
 {
     for place in 0..8usize {

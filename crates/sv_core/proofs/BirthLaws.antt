@@ -1,5 +1,5 @@
 -- Where a published operation came from: the run of an answer on a cut of its site, which its deps count.
-use Rattle.std.proofs.Common.{◌≡◌, ◌⊎◌, inl, inr, ℕ, zero, suc, ◌<◌, ◌≤◌, ◌-◌, ◌==◌, ◌&&◌, if◌then◌else◌, Bool, true, false, List, [], ◌∷◌, length, drop, Option, Some, None, slice_get, refl, sym, ap, subst, ◌∙◌, arith}
+use Rattle.std.proofs.Common.{◌≡◌, ◌⊎◌, inl, inr, ℕ, suc, ◌<◌, ◌≤◌, ◌-◌, ◌==◌, if◌then◌else◌, Bool, true, false, List, [], ◌∷◌, length, drop, Some, None, slice_get, refl, sym, ap, subst, ◌∙◌, arith}
 use Rattle.std.specs.Prelude.{map}
 use Rattle.std.proofs.lemmas.Bool.{cases_eq}
 use Rattle.sv_value.specs.declared.packets.Packet.{Packet}
@@ -8,15 +8,12 @@ use Rattle.sv_app.specs.declared.requests.Request.{Request}
 use Rattle.sv_app.proofs.TestLaws.{same_test, test_same}
 use Rattle.sv_effect.specs.declared.ops.Op.{Op}
 use Rattle.sv_effect.specs.BareTables.{bare}
-use Rattle.sv_effect.specs.Cut.{Cut, Medium, as_deps, Lies, Closed}
+use Rattle.sv_effect.specs.Cut.{Cut, as_deps, Lies, Closed}
 use Rattle.sv_effect.specs.Effects.{Fits}
-use Rattle.sv_effect.specs.Has.{effects_of}
 use Rattle.sv_effect.specs.RunChanges.{Effect, effect_of}
 use Rattle.sv_effect.specs.TablesOfCut.{tables_of}
 use Rattle.sv_effect.specs.Threatened.{Unthreatened}
 use Rattle.sv_safety.specs.Runs.{IsOpOf}
-use Rattle.sv_threat.specs.declared.label.Label.{Label}
-use Rattle.sv_core.specs.declared.entries.Reply.{Reply}
 use Rattle.sv_core.specs.declared.entries.Entry.{Entry}
 use Rattle.sv_core.specs.declared.entries.Entry.TheVariants.{Answer, Apply, Move}
 use Rattle.sv_core.specs.Clock.{latest_in}
@@ -32,7 +29,7 @@ use Rattle.sv_core.proofs.HistoryLaws.{stays, cut_grows, cut_since, legal_since,
 use Rattle.sv_core.proofs.ListLaws.{get_within, get_some}
 use Rattle.sv_core.proofs.MediumLaws.{news_get}
 
-carried_is : (es : List Effect) → map effect_of (map carried es) ≡ es
+pub carried_is : (es : List Effect) → map effect_of (map carried es) ≡ es
 carried_is [] = refl
 carried_is (e ∷ es) = ap (λ xs. e ∷ xs) (carried_is es)
 

@@ -38,7 +38,7 @@ take-more [] n op e = absurd cc
 take-more (x ∷ ops) zero op e = let same : x ≡ op = cc in ap (λ y. y ∷ []) same
 take-more (x ∷ ops) (suc n) op e = ap (λ l. x ∷ l) (take-more ops n op e)
 
-held_grown : (m : Medium) (cut : Cut) (o : ℕ) (op : Op) → slice_get (m o) (cut o) ≡ Some op → Grown (held m cut) (held m (more cut o)) o (op ∷ [])
+pub held_grown : (m : Medium) (cut : Cut) (o : ℕ) (op : Op) → slice_get (m o) (cut o) ≡ Some op → Grown (held m cut) (held m (more cut o)) o (op ∷ [])
 held_grown m cut o op next = record {
   here = (λ i. take (here i) (m o)) ∙ take-more (m o) (cut o) op next;
   others = λ p apart i. take (there p apart i) (m p);

@@ -1,6 +1,5 @@
 -- What holds of each operation of a legal history and of each closed cut of it: needs, rows of the schema, keys that were drawn, stamps, and valid tables.
-use Rattle.std.proofs.Common.{◌≡◌, ◌⊎◌, inl, inr, ℕ, zero, suc, ◌<◌, ◌≤◌, ◌==◌, ◌||◌, if◌then◌else◌, Bool, true, false, List, [], ◌∷◌, length, drop, map, Option, Some, None, slice_get, refl, sym, ap, subst, ◌∙◌, arith}
-use Rattle.std.specs.Prelude.{get_or}
+use Rattle.std.proofs.Common.{◌≡◌, ◌⊎◌, inl, inr, ℕ, zero, suc, ◌<◌, ◌≤◌, ◌||◌, Bool, true, false, List, [], ◌∷◌, length, drop, map, Some, slice_get, refl, sym, ap, subst, ◌∙◌, arith}
 use Rattle.std.proofs.lemmas.Bool.{cases_eq}
 use Rattle.std.proofs.lemmas.Bool.Decides.{nat_tests}
 use Rattle.std.proofs.lemmas.List.{nil_from_length}
@@ -15,49 +14,46 @@ use Rattle.sv_effect.specs.declared.ops.Op.{Op}
 use Rattle.sv_effect.specs.declared.ops.RowEffect.{RowEffect}
 use Rattle.sv_effect.specs.Applied.{applied}
 use Rattle.sv_effect.specs.BareTables.{bare}
-use Rattle.sv_effect.specs.Cut.{Cut, Medium, Lies, Closed, empty}
+use Rattle.sv_effect.specs.Cut.{Cut, Medium, Lies, Closed}
 use Rattle.sv_effect.specs.Has.{effects_of, Has}
-use Rattle.sv_effect.specs.Initial.{InitFits}
 use Rattle.sv_effect.specs.Newer.{AreOlder}
 use Rattle.sv_effect.specs.RowsFit.{AllStand}
-use Rattle.sv_effect.specs.RunChanges.{Effect, effect_of}
+use Rattle.sv_effect.specs.RunChanges.{effect_of}
 use Rattle.sv_effect.specs.Safe.{Unmade, Safe}
 use Rattle.sv_effect.specs.StampedTables.{StampedTables}
-use Rattle.sv_effect.specs.TablesOfCut.{tables_held, tables_of}
+use Rattle.sv_effect.specs.TablesOfCut.{tables_of}
 use Rattle.sv_effect.specs.Threatened.{threatened_by_plain, any_threatened, Unthreatened}
 use Rattle.sv_effect.proofs.TableLaws.{tables_of-more}
-use Rattle.sv_safety.specs.Laws.{IsMade, IsBlue, IsBeginning, LeavesRows, DrawsApart}
-use Rattle.sv_safety.specs.Runs.{IsRequest, IsOpOf, DrawsFrom, HoldsWhereMade}
+use Rattle.sv_safety.specs.Laws.{IsMade, DrawsApart}
+use Rattle.sv_safety.specs.Runs.{IsRequest, DrawsFrom, HoldsWhereMade}
 use Rattle.sv_safety.proofs.Promises as safety
 use Rattle.sv_core.specs.declared.entries.Entry.{Entry}
 use Rattle.sv_core.specs.Document.{Document}
 use Rattle.sv_core.specs.History.{History, cut_of, news, published, answered}
 use Rattle.sv_core.specs.Laws.{IsLawful, IsCut, Merges, cut_tables}
-use Rattle.sv_core.specs.Runs.{run_of}
-use Rattle.sv_core.specs.Sound.{RequestFits, Sound, initial_tables}
 use Rattle.sv_core.proofs.BirthLaws.{Made, New, Birth, birth, new_op, lawful_before, past_lies, past_closed, made_cut, deps_cut, deps_own, same_pair}
 use Rattle.sv_core.proofs.CutLaws.{order}
-use Rattle.sv_core.proofs.HistoryLaws.{tables_since, within, few}
+use Rattle.sv_core.proofs.HistoryLaws.{tables_since, few}
 use Rattle.sv_core.proofs.ListLaws.{get_within, get_some}
 use Rattle.sv_core.proofs.MediumLaws.{news_get}
 use Rattle.sv_core.proofs.TimeLaws.{times_differ}
 use Rattle.sv_core.proofs.WalkLaws.{closed_more, Step, walk}
 
 -- cuts that lie below others
-more_low : (d : Cut) (o x : ℕ) → d x ≤ more d o x
+pub more_low : (d : Cut) (o x : ℕ) → d x ≤ more d o x
 more_low d o x = grind (arith, nat_tests)
 
-more_here : (d : Cut) (o : ℕ) → more d o o ≡ suc (d o)
+pub more_here : (d : Cut) (o : ℕ) → more d o o ≡ suc (d o)
 more_here d o = rw (same_test o o refl) refl
 
-lies_below : (m : Medium) (d to : Cut) (x : ℕ) → Covers to (more d x) → Lies m to → Lies m d
+pub lies_below : (m : Medium) (d to : Cut) (x : ℕ) → Covers to (more d x) → Lies m to → Lies m d
 lies_below m d to x inside lies y =
     let a : d y ≤ more d x y = more_low d x y in let b : more d x y ≤ to y = inside y in let c : to y ≤ length (m y) = lies y in omega (arith, a, b, c)
 
 abbrev pub nothing : Cut
 nothing o = 0
 
-none_closed : (m : Medium) → Closed m nothing
+pub none_closed : (m : Medium) → Closed m nothing
 none_closed m o q op lt get = absurd (omega (arith, lt))
 
 -- what is known of an operation of the history

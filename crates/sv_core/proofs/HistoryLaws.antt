@@ -15,23 +15,21 @@ use Rattle.sv_effect.specs.BareTables.{bare}
 use Rattle.sv_effect.specs.Cut.{Cut, as_deps, Lies}
 use Rattle.sv_effect.specs.Effects.{Fits}
 use Rattle.sv_effect.specs.Run.{RunResult, Flow, Goes, Ends, result_of, flow_of_body, body_of}
-use Rattle.sv_effect.specs.RunChanges.{Effect}
 use Rattle.sv_effect.specs.TablesOfCut.{tables_held, tables_of}
 use Rattle.sv_effect.specs.Threatened.{Unthreatened}
 use Rattle.sv_threat.specs.declared.label.Label.{Label}
 use Rattle.sv_threat.specs.declared.label.Label.TheVariants.{Nothing, Blue, Red}
-use Rattle.sv_threat.specs.Labels.{IsLabel}
 use Rattle.sv_core.specs.declared.entries.Reply.{Reply}
 use Rattle.sv_core.specs.declared.entries.Reply.TheVariants.{Ran, Refused, Full}
 use Rattle.sv_core.specs.declared.entries.Entry.{Entry}
 use Rattle.sv_core.specs.declared.entries.Entry.TheVariants.{Answer, Apply, Move}
 use Rattle.sv_core.specs.Document.{Document}
-use Rattle.sv_core.specs.History.{History, brings, cut_of, back_to, tables_then, run_then, op_of, news, published, tables_at, home, site_of}
+use Rattle.sv_core.specs.History.{History, brings, cut_of, back_to, tables_then, run_then, op_of, news, published, home, site_of}
 use Rattle.sv_core.specs.Judged.{is_done, IsReply, made_by, IsJudged}
-use Rattle.sv_core.specs.Legal.{Legal, IsAsked, IsDue, Shows, IsJudgedThen, IsAnswer, IsNext}
+use Rattle.sv_core.specs.Legal.{Legal, IsAsked, IsDue, Shows, IsJudgedThen, IsAnswer}
 use Rattle.sv_core.specs.Room.{Lack, lack_of}
 use Rattle.sv_core.specs.Runs.{run_of}
-use Rattle.sv_core.specs.Sound.{IsSite, Sound}
+use Rattle.sv_core.specs.Sound.{IsSite}
 use Rattle.sv_core.proofs.ListLaws.{get_within}
 use Rattle.sv_core.proofs.CutLaws.{counts_as}
 use Rattle.sv_core.proofs.MediumLaws.{news_stay, news_held, news_long, news_longer}
@@ -121,7 +119,7 @@ makes schema t ran (Ran outcome) is some = record { changes = some; fits = λ do
 makes schema t ran (Refused inv) is some = absurd (some refl)
 makes schema t ran (Full which used) is some = absurd is
 
-none_some : {A : Type 0} (x : A) → ◌≡◌ {A = Option A} (Some x) None → ⊥
+pub none_some : {A : Type 0} (x : A) → ◌≡◌ {A = Option A} (Some x) None → ⊥
 none_some x e = cc
 
 nothing_in : {A : Type 0} (es : List A) (n : ℕ) (x : A) → slice_get es n ≡ Some x → es ≢ []

@@ -1,6 +1,6 @@
 -- A request is answered in one way on given tables, and has one label.
 use Rattle.std.proofs.Common.{◌≡◌, ◌⊎◌, inl, inr, ℕ, ◌<◌, ◌≤◌, List, [], Some, slice_get, refl, sym, ap, subst, ◌∙◌, arith}
-use Rattle.std.specs.Prelude.{zero, suc, true, false}
+use Rattle.std.specs.Prelude.{zero, suc, false}
 use Rattle.std.specs.Ordering.{is_lt}
 use Rattle.sv_value.specs.Orders.{key_cmp}
 use Rattle.sv_value.specs.declared.values.Key.{Key}
@@ -9,18 +9,18 @@ use Rattle.sv_app.specs.declared.reasons.Reason.TheVariants.{Plain, Unique, Chil
 use Rattle.sv_app.specs.Schema.{Declaration}
 use Rattle.sv_app.specs.Tables.{Tables}
 use Rattle.sv_app.specs.Valid.{Valid, IsFirstBroken}
-use Rattle.sv_effect.specs.Effects.{with_effects, Fits}
+use Rattle.sv_effect.specs.Effects.{with_effects}
 use Rattle.sv_effect.specs.Run.{RunResult}
 use Rattle.sv_effect.specs.RunChanges.{Effect}
 use Rattle.sv_effect.specs.Threatened.{Unthreatened}
 use Rattle.sv_threat.specs.declared.label.Label.{Label}
 use Rattle.sv_threat.specs.declared.label.Label.TheVariants.{Nothing, Blue, Red}
-use Rattle.sv_threat.specs.FirstThreat.{rank, invariant_in, Threat, IsBefore, IsSooner, IsFirst, place_of}
+use Rattle.sv_threat.specs.FirstThreat.{rank, invariant_in, IsBefore, place_of}
 use Rattle.sv_threat.specs.Labels.{IsRed, IsLabel}
 use Rattle.sv_core.specs.declared.entries.Reply.{Reply}
 use Rattle.sv_core.specs.declared.entries.Reply.TheVariants.{Ran, Refused, Full}
-use Rattle.sv_core.specs.Judged.{is_done, IsReply, made_by, IsJudged}
-use Rattle.sv_core.specs.Laws.{AreOne, JudgedOnce}
+use Rattle.sv_core.specs.Judged.{is_done, IsReply, made_by}
+use Rattle.sv_core.specs.Laws.{JudgedOnce}
 use Rattle.sv_core.proofs.CutLaws.{order}
 
 -- tables that are valid break nothing

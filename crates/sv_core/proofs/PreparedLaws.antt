@@ -1,5 +1,5 @@
 -- What is prepared is right on all valid tables that agree with what was read.
-use Rattle.std.proofs.Common.{◌≡◌, ◌≢◌, ℕ, Bool, true, false, List, [], ◌∷◌, map, Option, refl, sym, ap, subst, ◌∙◌}
+use Rattle.std.proofs.Common.{◌≡◌, ℕ, true, List, [], map, Option, refl, sym, ap, subst, ◌∙◌}
 use Rattle.std.specs.Prelude.{ℤ, ◌≤◌, ◌<◌, ◌^◌, length, Some, slice_get}
 use Rattle.sv_value.specs.declared.values.Key.{Key}
 use Rattle.sv_app.specs.declared.apps.App.{App}
@@ -16,13 +16,13 @@ use Rattle.sv_effect.specs.declared.outcomes.Outcome.TheVariants.{Done, Abort, N
 use Rattle.sv_effect.specs.declared.outcomes.Ran.{Ran as RanValue}
 use Rattle.sv_effect.specs.declared.reads.Read.{Read}
 use Rattle.sv_effect.specs.Agrees.{Agrees}
-use Rattle.sv_effect.specs.Effects.{with_effects, Fits, FindsAll}
+use Rattle.sv_effect.specs.Effects.{with_effects, FindsAll}
 use Rattle.sv_effect.specs.Faces.{Face}
 use Rattle.sv_effect.specs.Follows.{Follows}
 use Rattle.sv_effect.specs.Reads.{ReadValue, read_of}
 use Rattle.sv_effect.specs.Fits.{AllFit}
 use Rattle.sv_effect.specs.Run.{RunResult, run, ran_of}
-use Rattle.sv_effect.specs.RunChanges.{Effect, effect_of}
+use Rattle.sv_effect.specs.RunChanges.{effect_of}
 use Rattle.sv_effect.proofs.FollowLaws as follow
 use Rattle.sv_trace.proofs.MakeLaws.{runs_make_their_tables}
 use Rattle.sv_check.specs.declared.verdicts.Verdict.TheVariants.{Keeps, Breaks}
@@ -35,7 +35,7 @@ use Rattle.sv_core.specs.declared.docs.Doc.{Doc}
 use Rattle.sv_core.specs.declared.entries.Reply.TheVariants.{Ran, Refused}
 use Rattle.sv_core.specs.declared.prepared.Answered.{Answered}
 use Rattle.sv_core.specs.Document.{Document, document_of}
-use Rattle.sv_core.specs.Judged.{is_done, IsJudged}
+use Rattle.sv_core.specs.Judged.{is_done}
 use Rattle.sv_core.specs.Legal.{IsSession}
 use Rattle.sv_core.specs.Made.{IsAnswer, IsAnswerTo, IsAnswerOn, IsListedAt, IsRight, Made}
 use Rattle.sv_core.specs.Sound.{IsSite, RequestFits}

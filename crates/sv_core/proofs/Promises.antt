@@ -1,16 +1,9 @@
 -- The laws of legal histories.
-use Rattle.std.proofs.Common.{◌≡◌, ℕ, zero, suc, ◌≤◌, List, [], ◌∷◌, drop, Some, slice_get, refl, sym, ap, subst, ◌∙◌, arith}
-use Rattle.std.specs.Prelude.{true, IsSome}
+use Rattle.std.proofs.Common.{◌≡◌, ℕ, suc, [], ◌∷◌, drop, refl, sym, subst, arith}
+use Rattle.std.specs.Prelude.{IsSome}
 use Rattle.std.specs.FinMap.{get}
-use Rattle.sv_value.specs.declared.values.Key.{Key}
-use Rattle.sv_value.specs.Cuts.{counts, Covers, more}
-use Rattle.sv_app.specs.declared.places.Place.{Place}
-use Rattle.sv_app.specs.Kinds.{is_grow_only}
-use Rattle.sv_app.specs.Schema.{Declaration}
 use Rattle.sv_app.specs.Valid.{IsPresent}
-use Rattle.sv_effect.specs.declared.ops.Op.{Op}
 use Rattle.sv_effect.specs.BareTables.{bare}
-use Rattle.sv_effect.specs.Cut.{Cut}
 use Rattle.sv_effect.specs.TablesOfCut.{tables_of}
 use Rattle.sv_effect.proofs.Promises as effects
 use Rattle.sv_safety.proofs.Promises as safety
@@ -21,7 +14,7 @@ use Rattle.sv_core.specs.Laws as law
 use Rattle.sv_core.specs.Laws.{IsLawful, IsCut, Merges, EachIsNext, cut_tables}
 use Rattle.sv_core.specs.Legal.{Legal, IsNext}
 use Rattle.sv_core.proofs.BirthLaws.{lawful_since, past_lies, past_closed}
-use Rattle.sv_core.proofs.FactLaws.{Facts, AllFacts, all_facts, merges_of, step_tables, needs, lacked, blues, lift}
+use Rattle.sv_core.proofs.FactLaws.{Facts, all_facts, merges_of, step_tables, needs, lacked, blues, lift}
 use Rattle.sv_core.proofs.HistoryLaws.{legal_since, tables_since, within}
 use Rattle.sv_core.proofs.WalkLaws.{Step, walk}
 

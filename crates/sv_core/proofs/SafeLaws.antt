@@ -1,24 +1,18 @@
 -- What is prepared blue is safe.
-use Rattle.std.proofs.Common.{◌≡◌, ◌≢◌, ℕ, ◌≤◌, List, [], map, refl, sym, ap, subst, ◌∙◌}
+use Rattle.std.proofs.Common.{◌≡◌, List, map, refl, ap, subst, ◌∙◌}
 use Rattle.sv_app.specs.Draws.{first_key}
 use Rattle.sv_app.specs.Schema.{Declaration}
-use Rattle.sv_app.specs.Tables.{Tables}
 use Rattle.sv_effect.specs.declared.ops.Need.{Need}
-use Rattle.sv_effect.specs.declared.ops.Op.{Op}
 use Rattle.sv_effect.specs.Run.{RunResult}
 use Rattle.sv_effect.specs.RunChanges.{Effect, effect_of}
 use Rattle.sv_effect.specs.Threatened.{Unthreatened}
-use Rattle.sv_safety.specs.Laws.{IsBlue}
-use Rattle.sv_safety.specs.Runs.{IsOpOf}
 use Rattle.sv_safety.proofs.Promises as safety
 use Rattle.sv_threat.specs.declared.label.Label.TheVariants.{Blue}
 use Rattle.sv_threat.specs.Labels.{IsLabel}
 use Rattle.sv_core.specs.declared.entries.Reply.{Reply}
 use Rattle.sv_core.specs.declared.entries.Reply.TheVariants.{Ran, Refused, Full}
-use Rattle.sv_core.specs.declared.prepared.Prepared.{Prepared}
-use Rattle.sv_core.specs.Document.{Document}
 use Rattle.sv_core.specs.Judged.{made_by}
-use Rattle.sv_core.specs.Made.{NeedsOf, IsRight, Made, IsOpFor, PreparedIsSafe}
+use Rattle.sv_core.specs.Made.{NeedsOf, IsRight, PreparedIsSafe}
 use Rattle.sv_core.specs.Runs.{run_of}
 
 -- what a blue reply stands for: all changes of the run, and its needs

@@ -6,7 +6,7 @@ use Rattle.sv_core.specs.declared.entries.Entry.{Entry}
 use Rattle.sv_core.specs.Document.{Document}
 use Rattle.sv_core.specs.History.{History, cut_of, news, published}
 use Rattle.sv_core.specs.Laws.{IsLawful}
-use Rattle.sv_core.proofs.BirthLaws.{Birth, New, birth, new_op, same_pair, lawful_before}
+use Rattle.sv_core.proofs.BirthLaws.{New, birth, new_op, same_pair, lawful_before}
 use Rattle.sv_core.proofs.MediumLaws.{news_get}
 
 -- what an entry publishes is later than what stood before it of its site

@@ -6,7 +6,6 @@ use Rattle.std.proofs.lemmas.Bool.Decides.{nat_tests}
 use Rattle.sv_value.specs.Cuts.{counts, Covers, more}
 use Rattle.sv_effect.specs.declared.ops.Op.{Op}
 use Rattle.sv_effect.specs.Cut.{Cut, Medium, Lies, Closed}
-use Rattle.sv_core.specs.declared.entries.Entry.{Entry}
 use Rattle.sv_core.specs.Document.{Document}
 use Rattle.sv_core.specs.History.{History, news, with_news, published, cut_of}
 use Rattle.sv_core.specs.Laws.{IsLawful}

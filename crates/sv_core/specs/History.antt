@@ -3,7 +3,6 @@
 use Rattle.std.specs.Prelude.{ℕ, suc, ◌+◌, ◌-◌, ◌%◌, ◌==◌, ◌&&◌, if◌then◌else◌, Bool, true, false, List, [], ◌∷◌, ◌++◌, length, drop, max, map, Option, Some, None, slice_get, get_or}
 use Rattle.sv_value.specs.Cuts.{origin}
 use Rattle.sv_app.specs.declared.requests.Request.{Request}
-use Rattle.sv_app.specs.Tables.{Tables}
 use Rattle.sv_effect.specs.declared.ops.Op.{Op}
 use Rattle.sv_effect.specs.BareTables.{bare}
 use Rattle.sv_effect.specs.StampedTables.{StampedTables}

@@ -1,6 +1,6 @@
 -- Which histories are legal: each entry at its place is an answer that its site's tables give, a published packet that its site was ready for, or a move of a
 -- session.
-use Rattle.std.specs.Prelude.{◌≡◌, ◌≢◌, ℕ, ◌+◌, ◌-◌, ◌<◌, ◌≤◌, false, List, [], ◌∷◌, All, length, take, Option, Some, None, slice_get, ⊤}
+use Rattle.std.specs.Prelude.{◌≡◌, ◌≢◌, ℕ, ◌+◌, ◌-◌, ◌<◌, ◌≤◌, false, [], ◌∷◌, All, length, take, Option, Some, None, slice_get, ⊤}
 use Rattle.sv_value.specs.declared.packets.Packet.{Packet}
 use Rattle.sv_value.specs.declared.packets.Packet.TheVariants as packets
 use Rattle.sv_value.specs.Cuts.{counts, Covers, origin, number}

@@ -1,5 +1,5 @@
 -- The run of a request of a session on tables, and the operation that its changes and needs make.
-use Rattle.std.specs.Prelude.{ℕ, map}
+use Rattle.std.specs.Prelude.{ℕ}
 use Rattle.sv_app.specs.declared.requests.Request.{Request}
 use Rattle.sv_app.specs.Draws.{first_key}
 use Rattle.sv_app.specs.Tables.{Tables}

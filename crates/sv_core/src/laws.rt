@@ -19,6 +19,7 @@ ghost use Rattle.sv_core.specs.Laws.{
   TablesStand,
 };
 ghost use Rattle.sv_core.specs.Made.{PreparedIsSafe};
+ghost use Rattle.sv_core.specs.WorldLaws.{OthersLeave};
 
 /// A request is answered in one way on given tables, and has one label.
 pub fn judged_once()
@@ -100,6 +101,12 @@ pub fn cuts_valid()
 /// The tables of every site at every place are valid.
 pub fn places_valid()
     ensures { PlacesValid }
+{}
+
+/// Further entries of other sites, and moves of sessions, change nothing at a site: its entries, its packets, what it has,
+/// its tables and the greatest time among what it has stay as they were.
+pub fn others_leave()
+    ensures { OthersLeave }
 {}
 
 /// The operation of an answer that was prepared blue is safe and commutes, on all valid rows of the application that agree

@@ -1,4 +1,4 @@
-use Rattle.std.proofs.Common.{rules, ◌≡◌}
+use Rattle.std.proofs.Common.{rules}
 use Rattle.sv_core.proofs.PreparedLaws as prepared
 use Rattle.sv_core.proofs.prepared.judge.Goals as goal
 
