@@ -1,0 +1,11 @@
+pub mod AppendLaws
+pub mod AskLaws
+pub mod CutLaws
+pub mod DocumentLaws
+pub mod GrowLaws
+pub mod LegalLaws
+pub mod OnceLaws
+pub mod OrderLaws
+pub mod RowsOfLaws
+pub mod ShowLaws
+pub mod StepLaws

@@ -1,0 +1,6 @@
+pub mod Laws
+pub mod Lines
+pub mod ReplayText
+pub mod Shows
+pub mod Steps
+pub mod Told
