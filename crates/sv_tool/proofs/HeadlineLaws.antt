@@ -3,16 +3,17 @@ use Rattle.std.proofs.Common.{◌≡◌, ◌∙◌, ◌⊎◌, inl, inr, ⊎_eli
 use Rattle.std.specs.Prelude.{codes}
 use Rattle.std.specs.Io.KnownBytes.{IsAtEnd}
 use Rattle.sv_io.specs.Faults.{Rose}
-use Rattle.sv_io.specs.Flows.{Grew, TookFront}
+use Rattle.sv_io.specs.Flows.{TookFront}
 use Rattle.sv_tool.specs.declared.answers.Halt.{Halt}
 use Rattle.sv_tool.specs.declared.answers.Halt.TheVariants as halts
 use Rattle.sv_tool.specs.declared.words.Command.{Command}
 use Rattle.sv_tool.specs.declared.words.Command.TheVariants.{Replay, Check}
 use Rattle.sv_tool.specs.declared.statuses.Status.{Status}
-use Rattle.sv_tool.specs.declared.statuses.Status.TheVariants.{Done, Refused, Usage}
+use Rattle.sv_tool.specs.declared.statuses.Status.TheVariants.{Done, Refused, Usage, SourceFailed, SinkFailed, NoMemory}
 use Rattle.sv_tool.specs.Answer.{Answer}
 use Rattle.sv_tool.specs.Commands.{IsWordOf, IsAnswerOf, IsCommand, usage, IsAnswer, Of, Other, IsAnswerTo}
 use Rattle.sv_tool.specs.Headline.{Told, Headline}
+use Rattle.sv_tool.specs.ReplayAnswer.{IsLegalReplay, IsReplay}
 use Rattle.sv_tool.specs.Statuses.{status_number, status_of, Writes, Whole, Front}
 
 -- ---- words
@@ -172,3 +173,31 @@ module _ {S K : Type 0} (left : S → Option (List ℕ)) (source_faults : S → 
     none_told halts.NoMemory rose number same = halted number same
 
 pub ruleset headlines = (usage_told, answer_told, none_told)
+
+-- ---- the history of a replay
+
+done_at : (status : Status) → status_number status ≡ 0 → status ≡ Done
+done_at Done e = refl
+done_at Refused e = absurd (omega (arith, e))
+done_at Usage e = absurd (omega (arith, e))
+done_at SourceFailed e = absurd (omega (arith, e))
+done_at SinkFailed e = absurd (omega (arith, e))
+done_at NoMemory e = absurd (omega (arith, e))
+
+done_by : (taken now : Option (List ℕ)) (faults faults_now : ℕ) (status : Status) (text : List ℕ) (number : ℕ) → Writes taken now faults faults_now status text number → number ≡ 0 → status ≡ Done
+done_by taken now faults faults_now status text number (Whole is grew) zero = done_at status (sym is ∙ zero)
+done_by taken now faults faults_now status text number (Front four took rose) zero = absurd (omega (arith, four, zero))
+
+pub legal_told : (words : List (List ℕ)) (command : Command) (left taken now : Option (List ℕ)) (faults faults_now : ℕ) (status : Status) (text : List ℕ) (number : ℕ) → IsWordOf command words
+    → (command ≡ Replay → status ≡ Done → IfSome left IsLegalReplay) → Writes taken now faults faults_now status text number → number ≡ 0 → IsReplay words → IfSome left IsLegalReplay
+legal_told words command left taken now faults faults_now status text number is legal writes zero replay =
+    legal (one_command command Replay words is replay) (done_by taken now faults faults_now status text number writes zero)
+
+pub usage_unlegal : (words : List (List ℕ)) (left : Option (List ℕ)) → (IsCommand words → ⊥) → IsReplay words → IfSome left IsLegalReplay
+usage_unlegal words left none replay = absurd (none (Replay, replay))
+
+pub halt_unlegal : (left : Option (List ℕ)) (halt : Halt) (number : ℕ) → number ≡ status_number (status_of halt) → number ≡ 0 → IfSome left IsLegalReplay
+halt_unlegal left halts.SourceFailed number is zero = absurd (omega (arith, is, zero))
+halt_unlegal left halts.NoMemory number is zero = absurd (omega (arith, is, zero))
+
+pub ruleset histories = (legal_told, usage_unlegal, halt_unlegal)

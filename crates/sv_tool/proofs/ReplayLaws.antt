@@ -1,97 +1,135 @@
--- What the reader answers, by the parts that it read.
-use Rattle.std.proofs.Common.{◌≡◌, ◌∙◌, ℕ, ℤ, true, false, List, [], ◌∷◌, map, length, Some, None, Err, refl, sym, ap, subst, cond, All, IsTrue}
-use Rattle.std.proofs.lemmas.List.Elements.{All-nil, All-cons}
-use Rattle.std.proofs.lemmas.Option.{slice_get_within}
-use Rattle.sv_value.specs.declared.packets.Packet.TheVariants.{Blue, Red}
-use Rattle.sv_lex.specs.declared.tokens.Token.{Token}
-use Rattle.sv_lex.specs.declared.tokens.TokenKind.{TokenKind}
-use Rattle.sv_app.specs.declared.schemas.Table.{Table}
-use Rattle.sv_app.specs.declared.apps.Ident.{Ident}
-use Rattle.sv_app.specs.Schema.{Declaration, schema_of}
-use Rattle.sv_app.specs.declared.txns.Txn.{Txn}
-use Rattle.sv_tool.specs.declared.readers.Adder.{Adder}
-use Rattle.sv_app.specs.declared.refusals.Stop.{Stop}
-use Rattle.sv_app.specs.declared.refusals.Stop.TheVariants.{Refused, NoMemory}
-use Rattle.sv_app.specs.declared.requests.Arg.{Arg}
-use Rattle.sv_app.specs.declared.requests.InitRow.{InitRow}
-use Rattle.sv_app.specs.declared.requests.Request.{Request}
-use Rattle.sv_first.specs.Document.{Document}
-use Rattle.sv_first.specs.Legal.{FitsDoc}
-use Rattle.sv_first.specs.Run.{fits64, first_arg, second_arg}
-use Rattle.sv_first.specs.Sound.{IsInitRow, Sound}
-use Rattle.sv_tool.specs.declared.readers.Parts.{Parts}
-use Rattle.sv_tool.specs.declared.steps.Replay.{Replay}
-use Rattle.sv_tool.specs.declared.steps.Step.{Step}
-use Rattle.sv_tool.specs.declared.steps.Step.TheVariants.{Ask, Deliver, Show}
-use Rattle.sv_tool.specs.Form.{Form, Describes, document_of_form, CountFrom, IsNumbered}
-use Rattle.sv_tool.specs.Grammar.{IsVal, Plain, Signed, AreMany, IsRow, IsAsk, IsDeliver, IsShow, IsStep, IsForm}
-use Rattle.sv_tool.specs.Reading.{Reads, at_start, HasApp, is_whole, parts_at, form_of_parts, whole_form, form_of}
-use Rattle.sv_tool.specs.Replays.{StepFits, StepsFit, IsReplay, Answers}
-use Rattle.sv_tool.proofs.FitLaws.{val_fits, form_sound}
-use Rattle.sv_tool.proofs.FormLaws.{ReadParts, parts_read, form_read, form_there}
+-- A replay that an accepted document asks for is sound and fits, its steps are counted, and its text is the answer.
+use Rattle.std.proofs.Common.{◌≡◌, ◌∙◌, ℕ, ◌+◌, ◌<◌, ◌≤◌, List, [], ◌∷◌, ◌++◌, length, take, get_or, Result, Ok, Err, IfOk, refl, sym, ap, subst, arith}
+use Rattle.std.specs.Prelude.{All, codes}
+use Rattle.std.proofs.lemmas.List.{take_more}
+use Rattle.std.proofs.lemmas.List.Elements.{All-nil}
+use Rattle.sv_value.specs.declared.memory.NoMemory.{NoMemory as OutOfMemory}
+use Rattle.sv_app.specs.declared.refusals.Code.TheVariants.{Syntax}
+use Rattle.sv_app.specs.declared.refusals.Refusal.{Refusal}
+use Rattle.sv_app.specs.Schema.{schema_of}
+use Rattle.sv_app.specs.Trees.{transactions_of}
+use Rattle.sv_lex.specs.Spots.{spot_at}
+use Rattle.sv_core.specs.declared.docs.Doc.{Doc}
+use Rattle.sv_core.specs.Document.{document_of}
+use Rattle.sv_core.specs.Mediums.{WorldView}
+use Rattle.sv_core.specs.Sound.{ItemFits, Sound}
+use Rattle.sv_report.specs.ReplayText.{AreSteps, started}
+use Rattle.sv_report.specs.Steps.{Replayed, StepsFit}
+use Rattle.sv_report.proofs.LegalLaws.{replays_are_legal}
+use Rattle.sv_workload.specs.declared.parts.Step.{Step}
+use Rattle.sv_workload.specs.declared.parts.Work.TheVariants as works
+use Rattle.sv_workload.specs.LastRefused.{total}
+use Rattle.sv_workload.specs.LineReading.{step_asks}
+use Rattle.sv_workload.specs.PartsFit.{WorkFits, step_moves}
+use Rattle.sv_tool.specs.declared.answers.Answer.{Answer as CodeAnswer}
+use Rattle.sv_tool.specs.declared.documents.Checked.{Checked}
+use Rattle.sv_tool.specs.declared.replays.Replay.{Replay}
+use Rattle.sv_tool.specs.declared.statuses.Status.TheVariants.{Done}
+use Rattle.sv_tool.specs.Answer.{Answer, refused_with}
+use Rattle.sv_tool.specs.ReadDocument.{IsFit, IsOfBytes, said_by}
+use Rattle.sv_tool.specs.ReplayAnswer.{HasNoSteps, IsLegalReplay, IsReplayAnswer, IsReplayOf, NoSteps, Replays, replay_document}
+use Rattle.sv_tool.specs.Replays.{IsReplayIn, IsReplayed}
+use Rattle.sv_tool.specs.Statuses.{status_number}
 
-ask_fits : (form : Form) (tokens : List Token) (session : ℕ) (request : Request) → IsAsk form.txns tokens session request → FitsDoc (document_of_form form) request
-ask_fits form tokens session request a = record {
-  txn = slice_get_within form.txns request.txn a.name a.named;
-  args = ap length a.args;
-  first = subst (λ (l : List Arg). IsTrue (fits64 (first_arg l))) (sym a.args) (val_fits a.pair.first_is);
-  second = subst (λ (l : List Arg). IsTrue (fits64 (second_arg l))) (sym a.args) (val_fits a.pair.second_is);
+-- one step more
+total_more : (count : Step → ℕ) (xs : List Step) (step : Step) → total count (xs ++ step ∷ []) ≡ total count xs + count step
+total_more count [] step = omega arith
+total_more count (x ∷ xs) step = let more = total_more count xs step in omega (arith, more)
+
+more : (count : Step → ℕ) (steps : List Step) (i : ℕ) (step : Step) → i < length steps → step ≡ get_or steps i step → total count (take (i + 1) steps) ≡ total count (take i steps) + count step
+more count steps i step lt is = ap (total count) (take_more steps i step lt ∙ ap (λ x. take i steps ++ x ∷ []) (sym is)) ∙ total_more count (take i steps) step
+
+pub asks_more : (steps : List Step) (i : ℕ) (step : Step) → i < length steps → step ≡ get_or steps i step → total step_asks (take (i + 1) steps) ≡ total step_asks (take i steps) + step_asks step
+asks_more steps i step lt is = more step_asks steps i step lt is
+
+pub moves_more : (steps : List Step) (i : ℕ) (step : Step) → i < length steps → step ≡ get_or steps i step → total step_moves (take (i + 1) steps) ≡ total step_moves (take i steps) + step_moves step
+moves_more steps i step lt is = more step_moves steps i step lt is
+
+pub ruleset counting = (asks_more, moves_more)
+
+-- the parts of an accepted document that asks for a replay
+module _ (checked : Checked) (steps : List Step) (fit : IsFit checked) (work : checked.parts.work ≡ works.Replay steps) where
+  fits : WorkFits (schema_of checked.app.tables.items) (transactions_of checked.app.txns.items) checked.parts.sites (works.Replay steps)
+  fits = subst (WorkFits (schema_of checked.app.tables.items) (transactions_of checked.app.txns.items) checked.parts.sites) work fit.parts.work
+
+  pub few_steps : length steps ≤ 65536
+  few_steps = fits.short.0
+
+  module _ (doc : Doc) (is : document_of doc ≡ replay_document (schema_of checked.app.tables.items) (transactions_of checked.app.txns.items) checked.parts steps) where
+    sound : Sound (document_of doc)
+    sound = subst Sound (sym is) (record {
+      accepted = fit.accepted;
+      init = fit.parts.rows;
+      distinct = fit.parts.distinct;
+      valid = fit.parts.valid;
+      room = fit.parts.sizes.room;
+      some = fit.parts.sizes.some;
+      sites = fit.parts.sizes.sites;
+      rows = fit.parts.sizes.rows;
+      changes = fit.parts.sizes.changes;
+      sessions = omega arith;
+      items = All-nil (All (ItemFits (replay_document (schema_of checked.app.tables.items) (transactions_of checked.app.txns.items) checked.parts steps)));
+      calls = λ listed. absurd (listed refl);
+      gos = λ listed. absurd (listed refl);
+      asks = fits.asks;
+      moves = fits.moves;
+    })
+
+    steps_fit : StepsFit (document_of doc) steps
+    steps_fit = subst (λ d. StepsFit d steps) (sym is) (record { unlisted = refl; each = fits.each; asks = omega arith; moves = omega arith })
+
+    pub replay_read : (replay : Replay) → replay ≡ record { doc = doc; steps = steps } → IsReplayIn checked replay
+    replay_read replay same = subst (IsReplayIn checked) (sym same) (record { work = work; document = is; sound = sound; fit = steps_fit })
+
+-- the text of steps that were made, and `end`
+pub replayed : (doc : Doc) (steps : List Step) (before made text : List ℕ) (w next : WorldView) → Sound (document_of doc) → StepsFit (document_of doc) steps → w ≡ started doc → before ≡ []
+    → Replayed before w steps made next → text ≡ made ++ codes "end\n" → IsReplayed doc steps text
+replayed doc steps before made text w next sound fit begun none all ends = record {
+  lines = all.text;
+  after = next;
+  are = are;
+  ends = ends ∙ ap (λ l. l ++ codes "end\n") (all.grown ∙ ap (λ l. l ++ all.text) none);
+  legal = replays_are_legal doc steps all.text next sound fit are;
+}
+  where
+    are : AreSteps (started doc) steps all.text next
+    are = subst (λ v. AreSteps v steps all.text next) begun all.are
+
+pub ruleset replaying = replayed
+
+-- what was read is a replay of the bytes
+of_bytes : (bytes : List ℕ) (checked : Checked) (replay : Replay) → IsOfBytes bytes checked → IsReplayIn checked replay → IsReplayOf bytes replay.doc replay.steps
+of_bytes bytes checked replay of in_it = record {
+  schema = of.schema;
+  txns = of.txns;
+  parts = checked.parts;
+  is = of.is;
+  work = in_it.work;
+  document = in_it.document ∙ (λ i. replay_document (of.of.tables i) (of.of.transactions i) checked.parts replay.steps);
 }
 
-step_fits : (form : Form) (tokens : List Token) (step : Step) → IsStep form.table form.txns form.sites tokens step → StepFits (document_of_form form) step
-step_fits form tokens (Ask session request) s = let a : IsAsk form.txns tokens session request = s in (a.asks, ask_fits form tokens session request a)
-step_fits form tokens (Deliver site (Blue origin seq)) s = let a : IsDeliver form.sites tokens site origin seq = s in (a.at, a.made, a.numbered)
-step_fits form tokens (Deliver site (Red slot)) s = absurd s
-step_fits form tokens (Show site table) s = let a : IsShow form.sites form.table tokens site table = s in (a.at, a.numbered)
+pub replay_answered : (bytes : List ℕ) (checked : Checked) (replay : Replay) (result : Result CodeAnswer OutOfMemory) → IsOfBytes bytes checked → IsReplayIn checked replay
+    → IfOk result (λ answer. answer.status ≡ Done) → IfOk result (λ answer. IsReplayed replay.doc replay.steps answer.text.items) → IfOk result (λ answer. IsReplayAnswer bytes (said_by answer))
+replay_answered bytes checked replay (Ok answer) of in_it done made =
+    subst (λ s. IsReplayAnswer bytes (record { status = s; text = answer.text.items })) (sym done)
+    (Replays replay.doc replay.steps answer.text.items (of_bytes bytes checked replay of in_it) (record { lines = made.lines; after = made.after; are = made.are; ends = made.ends }))
+replay_answered bytes checked replay (Err none) of in_it done made = tt
 
-steps_fit : (form : Form) (tokens : List Token) (steps : List Step) → AreMany (IsStep form.table form.txns form.sites) tokens steps → StepsFit (document_of_form form) steps
-steps_fit form tokens [] are = tt
-steps_fit form tokens (step ∷ steps) are = (step_fits form are.front step are.first, steps_fit form are.others steps are.then)
+pub replay_legal : (bytes : List ℕ) (checked : Checked) (replay : Replay) (result : Result CodeAnswer OutOfMemory) → IsOfBytes bytes checked → IsReplayIn checked replay
+    → IfOk result (λ answer. IsReplayed replay.doc replay.steps answer.text.items) → IfOk result (λ answer. answer.status ≡ Done → IsLegalReplay bytes)
+replay_legal bytes checked replay (Ok answer) of in_it made = λ done.
+    record { doc = replay.doc; steps = replay.steps; lines = made.lines; after = made.after; of = of_bytes bytes checked replay of in_it; are = made.are; legal = made.legal }
+replay_legal bytes checked replay (Err none) of in_it made = tt
 
-name_numbers : {A : Type 0} (name : A → Ident) (xs : List A) → map (λ x. (name x).num) xs ≡ map (λ (ident : Ident). ident.num) (map name xs)
-name_numbers name [] = refl
-name_numbers name (x ∷ xs) = ap (λ (l : List ℕ). (name x).num ∷ l) (name_numbers name xs)
+pub stepless_answered : (bytes : List ℕ) (checked : Checked) (refusal : Refusal) (result : Result CodeAnswer OutOfMemory) → IsOfBytes bytes checked → HasNoSteps checked.parts.work
+    → refusal ≡ record { spot = spot_at bytes (length bytes); code = Syntax } → IfOk result (λ answer. said_by answer ≡ refused_with refusal) → IfOk result (λ answer. IsReplayAnswer bytes (said_by answer))
+stepless_answered bytes checked refusal (Ok answer) of none is said = subst (IsReplayAnswer bytes) (sym (said ∙ ap refused_with is)) (NoSteps of.schema of.txns checked.parts of.is none)
+stepless_answered bytes checked refusal (Err error) of none is said = tt
 
-abbrev numbers : List Ident → List ℕ
-numbers names = map (λ (ident : Ident). ident.num) names
+-- a refusal isn't the end of a replay
+pub refused_legal : (bytes : List ℕ) (refusal : Refusal) (result : Result CodeAnswer OutOfMemory) → IfOk result (λ answer. said_by answer ≡ refused_with refusal)
+    → IfOk result (λ answer. answer.status ≡ Done → IsLegalReplay bytes)
+refused_legal bytes refusal (Ok answer) said = λ done. let one : 1 ≡ 0 = ap (λ (a : Answer). status_number a.status) (sym said) ∙ ap status_number done in absurd (omega (arith, one))
+refused_legal bytes refusal (Err error) said = tt
 
-schema_idents : (tables : List Table) → map (λ table. table.name) tables ≡ map (λ (t : Declaration). t.name) (schema_of tables)
-schema_idents [] = refl
-schema_idents (table ∷ tables) = ap (λ (l : List Ident). table.name ∷ l) (schema_idents tables)
-
-app_numbered : (tokens : List Token) (parts : Parts) (rest : List Token) (replay : Replay) → ReadParts tokens parts rest → HasApp replay parts → IsNumbered replay
-app_numbered tokens parts rest replay r app = record {
-  tables = subst (CountFrom 0) (sym (name_numbers (λ (table : Table). table.name) replay.doc.app.tables.items ∙ ap numbers (schema_idents replay.doc.app.tables.items ∙ ap (map (λ (t : Declaration). t.name)) app.tables))) (refl, tt);
-  txns = subst (CountFrom 0) (name_numbers (λ (adder : Adder). adder.name) parts.txns ∙ ap numbers (sym app.txns) ∙ sym (name_numbers (λ (txn : Txn). txn.name) replay.doc.app.txns.items)) r.txns_numbered;
-}
-
-pub parts_replay : (tokens : List Token) (parts : Parts) (rest : List Token) (replay : Replay) → parts_at tokens ≡ Some (parts, rest) → is_whole rest parts ≡ true → Describes replay (form_of_parts parts) → HasApp replay parts
-    → IsReplay tokens replay
-unfolding form_of
-parts_replay tokens parts rest replay is whole d app =
-    let read : form_of tokens ≡ Some (form_of_parts parts) = ap whole_form is ∙ ap (λ b. cond b (Some (form_of_parts parts)) None) whole in
-    let written : IsForm tokens (form_of_parts parts) = form_read tokens (form_of_parts parts) read in
-    record {
-      form = form_of_parts parts;
-      written = written;
-      read = read;
-      describes = d;
-      numbered = app_numbered tokens parts rest replay (parts_read tokens parts rest is) app;
-      sound = subst Sound (sym d.document) (form_sound tokens (form_of_parts parts) written);
-      fit = subst (λ (doc : Document). StepsFit doc replay.steps) (sym d.document)
-          (subst (λ (l : List Step). StepsFit (document_of_form (form_of_parts parts)) l) (sym d.steps) (steps_fit (form_of_parts parts) written.step_part (form_of_parts parts).steps written.steps));
-    }
-
--- tokens of no form are refused
-no_form : (tokens : List Token) → form_of tokens ≡ None → Answers tokens (Err (Refused at_start))
-no_form tokens none = (refl, none, λ form f. let some : form_of tokens ≡ Some form = form_there tokens form f in absurd cc)
-
-pub parts_refused : (tokens rest : List Token) (stop : Stop) → Reads {A = Parts} (Err stop) rest (parts_at tokens) → Answers tokens (Err stop)
-unfolding form_of
-parts_refused tokens rest (Refused refusal) reads =
-    subst (λ r. Answers tokens (Err (Refused r))) (sym reads.1) (no_form tokens (ap whole_form reads.0))
-parts_refused tokens rest NoMemory reads = tt
-
-pub whole_refused : (tokens : List Token) (parts : Parts) (rest : List Token) → parts_at tokens ≡ Some (parts, rest) → is_whole rest parts ≡ false → Answers tokens (Err (Refused at_start))
-unfolding form_of
-whole_refused tokens parts rest is whole = no_form tokens (ap whole_form is ∙ ap (λ b. cond b (Some (form_of_parts parts)) None) whole)
+pub ruleset reading = (few_steps, replay_read)

@@ -1,15 +1,11 @@
 pub mod Accepted
 pub mod Answer
-pub mod CanMake
 pub mod CheckText
 pub mod Commands
-pub mod Form
-pub mod Grammar
+pub mod Documents
 pub mod Headline
 pub mod Laws
-pub mod Lines
 pub mod ReadDocument
-pub mod Reading
-pub mod ReplayText
+pub mod ReplayAnswer
 pub mod Replays
 pub mod Statuses

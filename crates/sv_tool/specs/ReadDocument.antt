@@ -1,30 +1,45 @@
--- What the program has of a document that it read: a replay of its form, and the answer that it writes.
-use Rattle.std.specs.Prelude.{◌≡◌, ℕ, List, [], ◌∷◌, Result, Ok, Err, ⊤}
-use Rattle.sv_app.specs.declared.schemas.Table.{Table}
-use Rattle.sv_app.specs.declared.refusals.Refusal.{Refusal}
-use Rattle.sv_app.specs.declared.refusals.Stop.{Stop}
-use Rattle.sv_app.specs.declared.refusals.Stop.TheVariants.{Refused, NoMemory}
+-- What the program has of a document that it read, and the answer that it writes.
+use Rattle.std.specs.Prelude.{◌≡◌, ℕ, List}
+use Rattle.sv_lex.specs.declared.tokens.Token.{Token}
+use Rattle.sv_app.specs.declared.apps.App.{App}
+use Rattle.sv_app.specs.Accepted.{AcceptedApp}
+use Rattle.sv_app.specs.Numbers.{numbered}
+use Rattle.sv_app.specs.Schema.{Declaration, schema_of}
+use Rattle.sv_app.specs.Trees.{Transaction, transactions_of}
+use Rattle.sv_app.specs.TxnNumbers.{numbered_txns}
+use Rattle.sv_workload.specs.PartsFit.{PartsFit}
 use Rattle.sv_tool.specs.declared.answers.Answer.{Answer as CodeAnswer}
-use Rattle.sv_tool.specs.declared.steps.Replay.{Replay}
+use Rattle.sv_tool.specs.declared.documents.Checked.{Checked}
 use Rattle.sv_tool.specs.Answer.{Answer}
-use Rattle.sv_tool.specs.Form.{Form, Describes}
+use Rattle.sv_tool.specs.Documents.{AreAccepted, AreBehind, IsDocument}
 
--- the name of the one table
-abbrev pub table_name : List Table → List ℕ
-table_name [] = []
-table_name (table ∷ tables) = table.name.name
+-- the application of these tables and transactions, with their names numbered
+pub record IsAppOf (schema : List Declaration) (txns : List Transaction) (app : App) : Type 0 where
+  pub tables : schema_of app.tables.items ≡ numbered schema
+  pub transactions : transactions_of app.txns.items ≡ numbered_txns schema txns
 
--- a replay of the form that was read
-pub record IsReplayIn (read : Result Form Refusal) (replay : Replay) : Type 0 where
-  pub form : Form
-  pub is : read ≡ Ok form
-  pub describes : Describes replay form
+-- the application is accepted, and what stands behind its transactions fits it
+pub record IsFit (checked : Checked) : Type 0 where
+  pub accepted : AcceptedApp (schema_of checked.app.tables.items) (transactions_of checked.app.txns.items)
+  pub parts : PartsFit (schema_of checked.app.tables.items) (transactions_of checked.app.txns.items) checked.parts
 
--- what is read is what reading gives, unless memory ran out
-abbrev pub ReadsAs : Result Form Refusal → Result Replay Stop → Type 0
-ReadsAs read (Ok replay) = IsReplayIn read replay
-ReadsAs read (Err (Refused refusal)) = read ≡ Err refusal
-ReadsAs read (Err NoMemory) = ⊤
+-- what was read behind tables, from tokens, and from bytes
+pub record IsBehind (schema : List Declaration) (tokens : List Token) (checked : Checked) : Type 0 where
+  pub txns : List Transaction
+  pub are : AreBehind schema tokens txns checked.parts
+  pub of : IsAppOf schema txns checked.app
+
+pub record IsOfTokens (tokens : List Token) (checked : Checked) : Type 0 where
+  pub schema : List Declaration
+  pub txns : List Transaction
+  pub are : AreAccepted tokens schema txns checked.parts
+  pub of : IsAppOf schema txns checked.app
+
+pub record IsOfBytes (bytes : List ℕ) (checked : Checked) : Type 0 where
+  pub schema : List Declaration
+  pub txns : List Transaction
+  pub is : IsDocument bytes schema txns checked.parts
+  pub of : IsAppOf schema txns checked.app
 
 -- the status and the text of an answer
 abbrev pub said_by : CodeAnswer → Answer

@@ -1,100 +1,174 @@
-ghost use Rattle.std.specs.Prelude.{◌≡◌, ◌++◌, ◌≤◌, ◌<◌, [], ◌∷◌, length, reverse, slice_get, Some, OnOk, IfOk, codes};
-ghost use Rattle.sv_first.specs.Document.{document_of};
-ghost use Rattle.sv_first.specs.Sound.{Sound};
-ghost use Rattle.sv_first.specs.World.{answer_due, delivered, after_delivery};
-ghost use Rattle.sv_tool.specs.Lines.{entry_line, delivered_line, show_lines};
-ghost use Rattle.sv_tool.specs.ReplayText.{rows_of, step_text, after_step, steps_text, after_steps};
-ghost use Rattle.sv_tool.specs.CanMake.{CanAsk, IsSiteOf, CanMake, CanMakeAll};
+//! Replays a document: makes its steps on a world, and writes their lines.
 
-use crate::shows::put_show;
-use crate::steps::Step;
-use crate::texts::{put_answer, put_bytes, put_delivered};
+ghost use Rattle.std.specs.Prelude.{◌≡◌, ◌≤◌, IfOk, MatchOption, length};
+ghost use Rattle.sv_io.specs.Flows.{most_bytes};
+ghost use Rattle.sv_core.specs.Document.{document_of};
+ghost use Rattle.sv_core.specs.Sound.{Sound};
+ghost use Rattle.sv_lex.specs.Spots.{spot_at};
+ghost use Rattle.sv_report.specs.Steps.{StepsFit};
+ghost use Rattle.sv_workload.specs.LastRefused.{total};
+ghost use Rattle.sv_workload.specs.LineReading.{step_asks};
+ghost use Rattle.sv_workload.specs.PartsFit.{step_moves};
+ghost use Rattle.sv_app.specs.declared.refusals.Code.TheVariants.{Syntax};
+ghost use Rattle.sv_tool.specs.ReadDocument.{IsFit, said_by};
+ghost use Rattle.sv_tool.specs.ReplayAnswer.{HasNoSteps, IsLegalReplay, IsReplayAnswer};
+ghost use Rattle.sv_tool.specs.Replays.{IsReplayIn, IsReplayed};
+ghost use Rattle.sv_tool.specs.declared.statuses.Status.TheVariants.{Done};
+
+use crate::answers::{Answer, refusal_answer};
+use crate::documents::{Checked, read_document};
+use crate::statuses::Status;
 use std::alloc::Global;
-use sv_app::Request;
-use sv_first::{Entry, World};
-use sv_value::{Name, NoMemory, Packet, Site};
+use std::sync::Arc;
+use sv_app::{Code, Refusal, Stop};
+use sv_core::{Doc, World};
+use sv_lex::spot_of;
+use sv_report::{put_bytes, replay_steps};
+use sv_value::{List, NoMemory};
+use sv_workload::{Parts, Step, Work};
 
-/// Appends the line of an entry of the history.
-fn put_entry(out: &mut Vec<u8>, entry: &Entry) -> Result<(), NoMemory>
-    ensures { OnOk result (out.new.items ≡ out.old.items ++ entry_line entry.now) }
+/// What a document asks for: a world, and the steps that it takes, in order.
+#[derive(Debug, Drop)]
+pub struct Replay {
+    pub doc: Doc,
+    pub steps: List<Step>,
+}
+
+/// How many of the steps ask.
+#[tactic(auto, using(crate::proofs::ReplayLaws::counting))]
+fn asks_in(steps: &[Step]) -> u32
+    requires { length steps.now ≤ 65536 }
+    ensures { result ≡ total step_asks steps.now }
 {
-    match entry {
-        Entry::Answer {
-            session,
-            index,
-            reply,
-            packet,
-            ..
-        } => put_answer(out, *session, *index, reply, packet),
-        Entry::Apply { .. } => put_bytes(out, b"applied\n"),
+    let mut count = 0;
+    for step in steps {
+        count += asks_of(step);
     }
+    count
 }
 
-/// Answers a session's request, and appends the line of the answer.
-fn make_ask(
-    alloc: Global,
-    world: &mut World,
-    session: u16,
-    request: Request,
-    out: &mut Vec<u8>,
-) -> Result<(), NoMemory>
-    requires { CanAsk world.old.doc world.old.history session request }
-    ensures text { OnOk result (out.new.items ≡ out.old.items ++ entry_line (answer_due world.old.doc world.old.history session request)) }
-    ensures after { OnOk result (world.new ≡ record world.old { history = answer_due world.old.doc world.old.history session request ∷ world.old.history }) }
-{
-    let place = world.ask(alloc, session, request)?;
-    put_entry(out, &world.history()[place as usize])
-}
-
-/// Delivers a packet at a site, and appends the line that says what became of it.
-fn make_delivery(
-    world: &mut World,
-    site: Site,
-    packet: Packet,
-    out: &mut Vec<u8>,
-) -> Result<(), NoMemory>
-    requires { IsSiteOf world.old.doc site }
-    ensures text { OnOk result (out.new.items ≡ out.old.items ++ delivered_line (delivered world.old.doc world.old.history site packet)) }
-    ensures after { OnOk result (world.new ≡ record world.old { history = after_delivery (delivered world.old.doc world.old.history site packet) site packet world.old.history }) }
-{
-    let answer = world.deliver(site, packet);
-    put_delivered(out, &answer)
-}
-
-/// Makes a step on the world, and appends its lines. The one table has this name.
-fn make_step(
-    alloc: Global,
-    world: &mut World,
-    name: &Name,
-    step: Step,
-    out: &mut Vec<u8>,
-) -> Result<(), NoMemory>
-    requires { CanMake world.old.doc world.old.history step }
-    ensures text { OnOk result (out.new.items ≡ out.old.items ++ step_text world.old.doc name.now world.old.history step) }
-    ensures after { OnOk result (world.new ≡ record world.old { history = after_step world.old.doc world.old.history step }) }
+fn asks_of(step: &Step) -> u32
+    ensures value { result ≡ step_asks step.now }
+    ensures few { result ≤ 1 }
 {
     match step {
-        Step::Ask { session, request } => make_ask(alloc, world, session, request, out),
-        Step::Deliver { site, packet } => make_delivery(world, site, packet, out),
-        Step::Show { site, table } => put_show(out, site, name, table, world.rows(site)),
+        Step::Ask { .. } => 1,
+        _ => 0,
     }
 }
 
-/// Makes the steps on the world in order, and appends their lines. The one table has this name.
-#[tactic(auto, using(crate::proofs::AppendLaws::appends))]
-pub fn make_steps(
-    alloc: Global,
-    world: &mut World,
-    name: &Name,
-    steps: Vec<Step>,
-    out: &mut Vec<u8>,
-) -> Result<(), NoMemory>
-    requires { CanMakeAll world.old.doc world.old.history steps.items }
-    ensures text { OnOk result (out.new.items ≡ out.old.items ++ steps_text world.old.doc name.now world.old.history steps.items) }
-    ensures after { OnOk result (world.new ≡ record world.old { history = after_steps world.old.doc world.old.history steps.items }) }
+/// How many of the steps send a session to a site.
+#[tactic(auto, using(crate::proofs::ReplayLaws::counting))]
+fn moves_in(steps: &[Step]) -> u32
+    requires { length steps.now ≤ 65536 }
+    ensures { result ≡ total step_moves steps.now }
 {
+    let mut count = 0;
     for step in steps {
-        make_step(alloc, world, name, step, out)?;
+        count += moves_of(step);
     }
-    Ok(())
+    count
+}
+
+fn moves_of(step: &Step) -> u32
+    ensures value { result ≡ step_moves step.now }
+    ensures few { result ≤ 1 }
+{
+    match step {
+        Step::Move { .. } => 1,
+        _ => 0,
+    }
+}
+
+/// The replay that an accepted document asks for; `None` where it asks for none.
+#[tactic(auto, using(crate::proofs::ReplayLaws::reading))]
+fn replay_in(alloc: Global, checked: Checked) -> Option<Replay>
+    requires { IsFit checked }
+    ensures { MatchOption result (HasNoSteps checked.parts.work) (IsReplayIn checked) }
+{
+    let Checked { app, parts } = checked;
+    let Parts {
+        init,
+        sites,
+        rows,
+        changes,
+        work,
+    } = parts;
+    match work {
+        Work::Replay(steps) => {
+            let asks = asks_in(steps.items());
+            let moves = moves_in(steps.items());
+            Some(Replay {
+                doc: Doc {
+                    app,
+                    init,
+                    sites,
+                    rows,
+                    changes,
+                    sessions: List::new(alloc),
+                    asks,
+                    moves,
+                },
+                steps,
+            })
+        }
+        Work::Nothing => None,
+        Work::Sessions(_) => None,
+    }
+}
+
+/// The text of a replay: the lines of its steps, and then `end`.
+#[tactic(auto, using(crate::proofs::ReplayLaws::replaying))]
+fn replay_text(alloc: Global, replay: Replay) -> Result<Vec<u8>, NoMemory>
+    requires sound { Sound (document_of replay.doc) }
+    requires fit { StepsFit (document_of replay.doc) replay.steps }
+    ensures { IfOk result (λ text. IsReplayed replay.doc replay.steps text.items) }
+{
+    let Replay { doc, steps } = replay;
+    let mut world = World::start(alloc, Arc::new(alloc, doc)?)?;
+    let mut text = Vec::new(alloc);
+    replay_steps(alloc, &mut text, &mut world, steps)?;
+    put_bytes(&mut text, b"end\n")?;
+    Ok(text)
+}
+
+/// The answer to a replay.
+fn replayed_answer(alloc: Global, replay: Replay) -> Result<Answer, NoMemory>
+    requires sound { Sound (document_of replay.doc) }
+    requires fit { StepsFit (document_of replay.doc) replay.steps }
+    ensures status { IfOk result (λ answer. answer.status ≡ Done) }
+    ensures text { IfOk result (λ answer. IsReplayed replay.doc replay.steps answer.text.items) }
+{
+    Ok(Answer {
+        status: Status::Done,
+        text: replay_text(alloc, replay)?,
+    })
+}
+
+/// The refusal of a document that asks for no replay, at its end.
+fn no_steps(bytes: &[u8]) -> Refusal
+    requires { length bytes.now ≤ most_bytes }
+    ensures { result ≡ record { spot = spot_at bytes.now (length bytes.now); code = Syntax } }
+{
+    Refusal {
+        spot: spot_of(bytes, bytes.len() as u32),
+        code: Code::Syntax,
+    }
+}
+
+/// The answer of `replay` to a document of at most 1,048,576 bytes.
+#[tactic(auto, using(crate::proofs::ReplayLaws::refused_legal))]
+pub fn replay_answer(alloc: Global, bytes: &[u8]) -> Result<Answer, NoMemory>
+    requires { length bytes.now ≤ most_bytes }
+    ensures answer { IfOk result (λ answer. IsReplayAnswer bytes.now (said_by answer)) }
+    ensures legal { IfOk result (λ answer. answer.status ≡ Done → IsLegalReplay bytes.now) }
+{
+    match read_document(alloc, bytes) {
+        Ok(checked) => match replay_in(alloc, checked) {
+            Some(replay) => replayed_answer(alloc, replay),
+            None => refusal_answer(alloc, &no_steps(bytes)),
+        },
+        Err(Stop::Refused(refusal)) => refusal_answer(alloc, &refusal),
+        Err(Stop::NoMemory) => Err(NoMemory),
+    }
 }

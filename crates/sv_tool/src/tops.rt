@@ -1,9 +1,6 @@
-ghost use Rattle.std.specs.Prelude.{◌≡◌, ◌≤◌, IfOk, IfSome};
-ghost use Rattle.sv_first.specs.Legal.{Legal};
-ghost use Rattle.sv_tool.specs.Answer.{IsReplay, form_in};
-ghost use Rattle.sv_tool.specs.Form.{document_of_form};
+ghost use Rattle.std.specs.Prelude.{◌≡◌, IfSome};
 ghost use Rattle.sv_tool.specs.Headline.{Headline};
-ghost use Rattle.sv_tool.specs.ReplayText.{replay_history};
+ghost use Rattle.sv_tool.specs.ReplayAnswer.{IsLegalReplay, IsReplay};
 ghost use Rattle.sv_tool.specs.Statuses.{Writes};
 
 use crate::answers::{Halt, answer_from};
@@ -33,11 +30,10 @@ fn tell<K: Sink>(out: &mut K, status: Status, text: &[u8]) -> u8
 /// - 3: the source failed; nothing was written.
 /// - 4: the sink failed; it took a front of the text.
 /// - 5: there was no memory; nothing was written.
-#[tactic(auto, using(crate::proofs::AnswerLaws::histories, crate::proofs::HeadlineLaws::headlines))]
+#[tactic(auto, using(crate::proofs::HeadlineLaws::headlines, crate::proofs::HeadlineLaws::histories))]
 pub fn plain<S: Source, K: Sink>(alloc: Global, words: &Words, input: &mut S, out: &mut K) -> u8
     ensures headline { Headline S.left S.faults K.taken K.faults words.now input.old input.new out.old out.new result }
-    ensures legal { result ≡ 0 → IsReplay words.now → IfSome (S.left input.old) (λ bytes. IfOk (form_in bytes) (λ form.
-        Legal (document_of_form form) (replay_history form))) }
+    ensures legal { result ≡ 0 → IsReplay words.now → IfSome (S.left input.old) IsLegalReplay }
 {
     let Some(command) = words.command() else {
         return tell(out, Status::Usage, b"usage\n");
@@ -57,8 +53,7 @@ pub fn top<R: Threads + Wait + Sync, S: Source, K: Sink>(
     out: &mut K,
 ) -> u8
     ensures headline { Headline S.left S.faults K.taken K.faults words.now input.old input.new out.old out.new result }
-    ensures legal { result ≡ 0 → IsReplay words.now → IfSome (S.left input.old) (λ bytes. IfOk (form_in bytes) (λ form.
-        Legal (document_of_form form) (replay_history form))) }
+    ensures legal { result ≡ 0 → IsReplay words.now → IfSome (S.left input.old) IsLegalReplay }
 {
     plain(alloc, words, input, out)
 }

@@ -1,7 +1,5 @@
-//! Trials of the top call on memory, with a fault at each read and each write, and of the definition of legal histories.
+//! Trials of the top call on memory, with a fault at each read and each write.
 #![tactic(auto)]
 
 #[cfg(test)]
 mod faults;
-#[cfg(test)]
-mod histories;

@@ -1,5 +1,0 @@
-use Rattle.sv_tool.proofs.RowsOfLaws.{rows_of_law}
-use Rattle.sv_tool.proofs.laws.rows_are_listed.Goals as goal
-
-pub returns : goal.returns
-returns c = rows_of_law

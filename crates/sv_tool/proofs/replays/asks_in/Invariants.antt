@@ -1,0 +1,10 @@
+use Rattle.std.proofs.Common.{◌≡◌, ◌≤◌, take}
+use Rattle.sv_workload.specs.LastRefused.{total}
+use Rattle.sv_workload.specs.LineReading.{step_asks}
+use Rattle.sv_tool.proofs.replays.asks_in.Given as goal
+
+abbrev pub invariant-loop-step : goal.invariant-loop-step
+invariant-loop-step l = record {
+  counted : l.count ≡ total step_asks (take l.step-index l.steps);
+  few : l.count ≤ l.step-index;
+}
