@@ -1,0 +1,3 @@
+pub mod Chaos
+pub mod Logs
+pub mod Sight

@@ -1,0 +1,6 @@
+use Rattle.std.proofs.Common.{◌≡◌, length}
+use Rattle.sv_post.specs.Sight.{Belongs}
+use Rattle.sv_post_trials.proofs.post_tests.fill.Given as goal
+
+abbrev pub invariant-loop-seq : goal.invariant-loop-seq
+invariant-loop-seq g l = Belongs l.post l.pass × (length l.post ≡ 2)
