@@ -76,7 +76,7 @@ two_say n m c e k false true d tape p q is =
     turned k x y = omega (arith, ints)
 two_say n m c e k false false d tape p q is = absurd cc
 
-difference_says : (ts : List (ℕ × ℤ)) (k : ℤ) (d : Difference) (tape : List Val) → difference_in ts k ≡ Some d → Says tape (k +ℤ terms_value ts tape) d
+pub difference_says : (ts : List (ℕ × ℤ)) (k : ℤ) (d : Difference) (tape : List Val) → difference_in ts k ≡ Some d → Says tape (k +ℤ terms_value ts tape) d
 difference_says [] k d tape e =
     let same : record { x = 0; y = 0; plus = k } ≡ d = cc in
     subst (Says tape (k +ℤ pos 0)) same (turned k)

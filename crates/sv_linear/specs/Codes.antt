@@ -1,5 +1,6 @@
--- Forms, effects, tests and atoms as their code has them.
+-- Forms, effects, tests, atoms and what is left of them, as their code has them.
 use Rattle.std.specs.Prelude.{ℕ, List, map}
+use Rattle.std.specs.Option.{option_map}
 use Rattle.sv_linear.specs.declared.forms.Form.{Form}
 use Rattle.sv_linear.specs.declared.effects.SymVal.{SymVal}
 use Rattle.sv_linear.specs.declared.effects.SymVal.TheVariants as vals
@@ -9,9 +10,13 @@ use Rattle.sv_linear.specs.declared.effects.SymEffect.{SymEffect}
 use Rattle.sv_linear.specs.declared.tests.Test.{Test}
 use Rattle.sv_linear.specs.declared.tests.Test.TheVariants as tests
 use Rattle.sv_linear.specs.declared.tests.Atom.{Atom}
+use Rattle.sv_linear.specs.declared.left.KeptAtom.{KeptAtom}
+use Rattle.sv_linear.specs.declared.left.Dropped.{Dropped}
+use Rattle.sv_linear.specs.declared.left.Left.{Left}
 use Rattle.sv_linear.specs.Forms as forms
 use Rattle.sv_linear.specs.Effects as effects
 use Rattle.sv_linear.specs.Tests as meant
+use Rattle.sv_linear.specs.Left as lefts
 
 abbrev pub form_of : Form → forms.Form
 form_of f = record { terms = f.terms; plus = f.plus }
@@ -38,3 +43,12 @@ test_of tests.Never = meant.Never
 
 abbrev pub atom_of : Atom → meant.Atom
 atom_of a = record { place = a.place; reason = a.reason; test = test_of a.test }
+
+abbrev pub kept_of : KeptAtom → lefts.KeptAtom
+kept_of k = record { atom = atom_of k.atom; shown = k.shown }
+
+abbrev pub dropped_of : Dropped → lefts.Dropped
+dropped_of d = record { atom = atom_of d.atom; after = d.after; cycle = d.cycle }
+
+abbrev pub left_of : Left → lefts.Left
+left_of left = record { kept = map kept_of left.kept; dropped = map dropped_of left.dropped; never = option_map atom_of left.never }

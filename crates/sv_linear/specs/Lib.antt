@@ -5,5 +5,7 @@ pub mod Effects
 pub mod Facts
 pub mod Forms
 pub mod Laws
+pub mod Left
+pub mod Named
 pub mod Sums
 pub mod Tests

@@ -28,10 +28,10 @@ use sv_value::{List, NoMemory};
 
 /// The difference `x - y + plus` of two symbols, of which 0 stands for zero.
 #[derive(Clone, Copy, Debug)]
-struct Apart {
-    x: u8,
-    y: u8,
-    plus: i64,
+pub struct Apart {
+    pub x: u8,
+    pub y: u8,
+    pub plus: i64,
 }
 
 /// What a comparison says by its truth value: rows over the symbols, where both sides are integers and the difference
@@ -74,7 +74,7 @@ fn facts_between(
 }
 
 /// The form as a difference, where it is one.
-fn difference_of(f: &Form) -> Option<Apart>
+pub fn difference_of(f: &Form) -> Option<Apart>
     ensures { found_of result ≡ difference_in f.now.terms f.now.plus }
 {
     match f.terms.items() {

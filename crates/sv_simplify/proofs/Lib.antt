@@ -1,0 +1,3 @@
+pub mod LeaveLaws
+pub mod OnceLaws
+pub mod RowLaws
