@@ -8,6 +8,6 @@ mod listing;
 mod tests;
 
 pub use answers::{MOST_PATHS, Path, PathStop};
-pub use bodies::{Unit, units};
+pub use bodies::{Unit, split, units};
 pub use laws::{all_paths_are_one_list, paths_are_unit_paths, units_are_few};
 pub use listing::paths;

@@ -1,6 +1,9 @@
 pub mod Drawn
+pub mod Executes
 pub mod Laws
+pub mod Limits
 pub mod Named
 pub mod Routes
 pub mod Sketches
+pub mod States
 pub mod Suited

@@ -1,5 +1,6 @@
 //! What the definitions promise, as calls that do nothing: their contracts are the laws.
 
+ghost use Rattle.sv_symbolic.specs.Executes.{ShapesTell};
 ghost use Rattle.sv_symbolic.specs.Laws.{FormsHold, RoutesAreClosed, RoutesArePaths};
 ghost use Rattle.sv_symbolic.specs.Suited.{EffectsSuit};
 
@@ -26,4 +27,11 @@ pub fn effects_suit()
 /// unit: the facts of the route hold on the entry's tape, and the effects have there the values of the entry's changes.
 pub fn forms_hold()
     ensures { FormsHold }
+{}
+
+/// Of each run of an accepted application on rows of its tables: where an entry of the trace went along a path that
+/// comes to a shape, the entry's tape has the shape's symbols, the facts hold on it, and the effects have there the
+/// values of the entry's changes.
+pub fn shapes_tell()
+    ensures { ShapesTell }
 {}
