@@ -1,6 +1,15 @@
+pub mod ArmLaws
+pub mod AskedLaws
+pub mod CaseOrder
 pub mod CaseTests
 pub mod CheckTests
+pub mod DecideLaws
 pub mod Decided
+pub mod GainLaws
+pub mod GroupLaws
+pub mod ListingLaws
 pub mod Moves
+pub mod OnceLaws
+pub mod OrderLaws
 pub mod Others
 pub mod Texts

@@ -26,7 +26,7 @@ use Rattle.sv_wp.proofs.Moves.{set_stands}
 
 -- ---- what nothing meets, where something holds
 
-nothing_asked : (schema : List Declaration) (tape : List Val) → AreMet schema tape [] ↔ (⊥ → ⊥)
+pub nothing_asked : (schema : List Declaration) (tape : List Val) → AreMet schema tape [] ↔ (⊥ → ⊥)
 nothing_asked schema tape = (λ met h. h, λ h. All-nil (IsMetOn schema tape))
 
 never_met : (schema : List Declaration) (tape : List Val) (b c : Bool) → b ≡ c → AreMet schema tape (never_where b) ↔ (c ≡ true → ⊥)
@@ -59,7 +59,7 @@ grows_same (Some d) = refl
 
 -- ---- plain changes
 
-plain_same : (columns : List Column) (n : ℕ) → is_plain_at columns n ≡ is_plain_column columns n
+pub plain_same : (columns : List Column) (n : ℕ) → is_plain_at columns n ≡ is_plain_column columns n
 plain_same [] n = refl
 plain_same (c ∷ cs) zero = refl
 plain_same (c ∷ cs) (suc n) = plain_same cs n
@@ -68,7 +68,7 @@ plain_writes : (columns : List Column) (tape : List Val) (ws : List (ℕ × SymW
 plain_writes columns tape [] = refl
 plain_writes columns tape (w ∷ ws) = λ i. plain_same columns w.0 i || plain_writes columns tape ws i
 
-plain_change : (schema : List Declaration) (d : Declaration) (tape : List Val) (e : SymEffect) (change : Effect) → slice_get schema change.place.table ≡ Some d → StandsFor tape e change
+pub plain_change : (schema : List Declaration) (d : Declaration) (tape : List Val) (e : SymEffect) (change : Effect) → slice_get schema change.place.table ≡ Some d → StandsFor tape e change
     → is_plain_change (slice_get schema e.table) e ≡ threats.is_plain_change schema change
 plain_change schema d tape e change at s =
     ap (λ n. is_plain_change (slice_get schema n) e) s.table ∙ ap (λ o. is_plain_change o e) at

@@ -1,5 +1,6 @@
-//! What the tests of a change promise.
+//! What the tests and the atoms of a change promise.
 
+ghost use Rattle.sv_wp.specs.Decides.{AtomsDecide};
 ghost use Rattle.sv_wp.specs.Laws.{
   CheckTestsDecide,
   PlainDecides,
@@ -38,4 +39,10 @@ pub fn parent_decides()
 /// What a list asks is met exactly where the change sets no text outside it.
 pub fn list_decides()
     ensures { ListDecides }
+{}
+
+/// The first atom that isn't met on a tape has the first reason that threatens the concrete change, and where all are met
+/// none does.
+pub fn atoms_decide()
+    ensures { AtomsDecide }
 {}

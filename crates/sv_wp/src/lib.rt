@@ -1,8 +1,17 @@
 //! What the atoms of a change in forms say of the concrete changes that it stands for.
 #![tactic(auto)]
 
+mod cases;
+mod gains;
+mod held;
 mod laws;
+mod listing;
+mod questions;
+mod writes;
 
+pub use gains::{GainTeller, TableGains};
 pub use laws::{
-    check_tests_decide, child_decides, list_decides, parent_decides, plain_decides, unique_decides,
+    atoms_decide, check_tests_decide, child_decides, list_decides, parent_decides, plain_decides,
+    unique_decides,
 };
+pub use listing::{atoms, atoms_by};
