@@ -64,7 +64,7 @@ told (Check i) = refl
 told (Listed i) = refl
 
 -- neither of two numbers is less
-level : (a b : ℕ) → (a < b → ⊥) → (b < a → ⊥) → a ≡ b
+pub level : (a b : ℕ) → (a < b → ⊥) → (b < a → ⊥) → a ≡ b
 level a b up down = by (order a b) (order b a)
   where
     by : (a < b) ⊎ (b ≤ a) → (b < a) ⊎ (a ≤ b) → a ≡ b

@@ -23,7 +23,7 @@ use Rattle.sv_core.specs.Document.{Document, document_of}
 use Rattle.sv_core.specs.History.{History, cut_of, op_of, news, with_news, published, count_where, is_answer, is_move, answers, moves, answered, moved, is_of}
 use Rattle.sv_core.specs.Laws.{IsLawful}
 use Rattle.sv_core.specs.Legal.{IsSession, IsNext, IsApply, IsMove}
-use Rattle.sv_core.specs.Mediums.{Proposal, MediumView, one_if, how_many_pending, doc_of, proposal_of, with_proposal, with_entry}
+use Rattle.sv_core.specs.Mediums.{IsNextCall, Proposal, MediumView, one_if, how_many_pending, doc_of, proposal_of, with_proposal, with_entry}
 use Rattle.sv_core.specs.MediumState.{IsAwaited, IsPending, IsSessionState, IsReply, Publishes, Keeps, shown, proposals_in, site_in}
 use Rattle.sv_core.specs.Packets.{packets_in}
 use Rattle.sv_core.specs.Publications.{Published, ArePublished, IsNamed, medium_in, with_blue, with_red, with_op}
@@ -90,6 +90,13 @@ state_of doc h k sessions capacity session state keeps who read = record {
 
     waits : shown state.proposal ≡ get_or (proposals_in sessions) (session - 1) None
     waits = sym (get_mapped (λ s. shown s.proposal) sessions (session - 1) state None at)
+
+-- an operation that waits is that of the session's next call
+pub next_call : (m : MediumView) (session : ℕ) (kept : Option KeptProposal) → shown kept ≡ proposal_of m session → IfSome kept (λ proposal. IsPending (doc_of m) m.history session proposal)
+    → IfSome (proposal_of m session) (λ proposal. IsNextCall m session proposal)
+next_call m session None is pending = subst (λ p. IfSome p (λ proposal. IsNextCall m session proposal)) is tt
+next_call m session (Some proposal) is pending =
+    subst (λ p. IfSome p (λ proposal. IsNextCall m session proposal)) is (record { next = pending.held.next; listed = pending.held.listed })
 
 -- how many there can be
 count_both : (p q : Entry → Bool) (h : History) → count_where (λ e. p e && q e) h ≤ count_where p h

@@ -1,4 +1,5 @@
 pub mod AnswerLaws
+pub mod ApplyLaws
 pub mod BirthLaws
 pub mod CatchLaws
 pub mod ClockLaws
@@ -16,6 +17,7 @@ pub mod JudgedLaws
 pub mod KeepLaws
 pub mod ListLaws
 pub mod MediumLaws
+pub mod OnceLaws
 pub mod PreparedLaws
 pub mod Promises
 pub mod PublicationLaws

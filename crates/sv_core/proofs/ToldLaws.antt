@@ -1,29 +1,38 @@
--- What was told: the test that the same was told, and reads that agree with tables up to the first that doesn't.
-use Rattle.std.proofs.Common.{◌≡◌, ℕ, zero, suc, ◌+◌, Bool, List, [], ◌∷◌, map, take, Option, Some, None, slice_get, refl, sym, ap, subst, ◌∙◌, arith}
+-- What was told: the test that the same was told, the one answer that tables give to an ask, and reads that agree with tables up to the first that doesn't.
+use Rattle.std.proofs.Common.{◌≡◌, ℕ, zero, suc, ◌+◌, ◌<◌, Bool, true, false, List, [], ◌∷◌, map, take, Option, Some, None, slice_get, refl, sym, ap, subst, ◌∙◌, arith}
+use Rattle.std.specs.declared.cmp.Ordering.{Ordering}
+use Rattle.std.specs.declared.cmp.Ordering.TheVariants.{Less, Equal, Greater}
 use Rattle.std.specs.Bool.{Decides}
 use Rattle.std.specs.Cmp.{booleans_Decides}
 use Rattle.std.specs.Option.{option_eq, option_map}
+use Rattle.std.specs.Ordering.{is_lt}
 use Rattle.std.proofs.lemmas.Bool.Decides.{Decides-and, Decides-eqb, Decides-int_eq, Decides-like}
 use Rattle.std.proofs.lemmas.Option.{slice_get-map}
 use Rattle.std.proofs.lemmas.Slice.Eq.{slice_eq-Decides}
 use Rattle.sv_value.specs.declared.values.Val.{Val}
 use Rattle.sv_value.specs.declared.values.Val.TheVariants.{Int, Text as ValText}
 use Rattle.sv_value.specs.declared.values.Key.{Key}
+use Rattle.sv_value.specs.Orders.{key_cmp}
+use Rattle.sv_value.proofs.OrderLaws.{exact_keys}
 use Rattle.sv_value.specs.contracts.values.ValPartialEq.TheImpl as val_test
 use Rattle.sv_value.specs.contracts.values.KeyPartialEq.TheImpl as key_test
 use Rattle.sv_app.specs.declared.gots.Got.{Got}
 use Rattle.sv_app.specs.declared.gots.Got.TheVariants.{Num, Text}
 use Rattle.sv_app.specs.contracts.gots.GotPartialEq.TheImpl as got_test
 use Rattle.sv_app.specs.Tables.{Tables}
+use Rattle.sv_effect.specs.declared.reads.Ask.{Ask}
+use Rattle.sv_effect.specs.declared.reads.Ask.TheVariants as asks
 use Rattle.sv_effect.specs.declared.reads.Read.{Read}
 use Rattle.sv_effect.specs.declared.reads.Seen.{Seen}
 use Rattle.sv_effect.specs.declared.reads.Told.{Told}
 use Rattle.sv_effect.specs.declared.reads.Told.TheVariants.{Row, Next}
 use Rattle.sv_effect.specs.contracts.reads.SeenPartialEq.TheImpl as seen_test
 use Rattle.sv_effect.specs.contracts.reads.ToldPartialEq.TheImpl as told_test
-use Rattle.sv_effect.specs.Agrees.{Agrees, Gives}
-use Rattle.sv_effect.specs.Reads.{IsRow, IsKey, seen_of, answer_of, read_of}
+use Rattle.sv_effect.specs.Agrees.{Agrees, Gives, IsNextKey}
+use Rattle.sv_effect.specs.Reads.{Answer, IsRow, IsKey, ReadValue, seen_of, answer_of, read_of}
+use Rattle.sv_effect.proofs.KeyLaws.{below_of}
 use Rattle.sv_core.specs.Events.{IsFirstChange}
+use Rattle.sv_core.proofs.JudgedLaws.{level}
 
 option_decides : {A : Type 0} {E : A → A → Bool} → ((a b : A) → Decides (E a b) (a ≡ b)) → (a b : Option A) → Decides (option_eq E a b) (a ≡ b)
 option_decides decides None None = (λ t. refl, λ e. refl)
@@ -106,3 +115,65 @@ first_changed t reads i read now get before gives other = record {
   differs = λ e. other (sym e);
   before = before;
 }
+
+-- tables give one answer to an ask
+next_once : (t : Tables) (table : ℕ) (after a b : Option Key) → IsNextKey t table after a → IsNextKey t table after b → a ≡ b
+next_once t table after None None x y = refl
+next_once t table after None (Some k) x y = let bad : true ≡ false = sym y.1 ∙ x k y.0 in absurd cc
+next_once t table after (Some k) None x y = let bad : true ≡ false = sym x.1 ∙ y k x.0 in absurd cc
+next_once t table after (Some j) (Some k) x y = by (key_cmp j k) refl
+  where
+    by : (o : Ordering) → key_cmp j k ≡ o → Some j ≡ Some k
+    by Less e = let bad : true ≡ false = sym x.1 ∙ y.2 j x.0 (ap is_lt e) in absurd cc
+    by Equal e = ap Some (exact_keys j k e)
+    by Greater e = let bad : true ≡ false = sym y.1 ∙ x.2 k y.0 (ap is_lt (below_of j k e)) in absurd cc
+
+given_once : (t : Tables) (ask : Ask) (a b : Answer) → Gives t ask a → Gives t ask b → a ≡ b
+given_once t (asks.Row table key) (IsRow x) (IsRow y) p q = ap IsRow (sym p ∙ q)
+given_once t (asks.Row table key) (IsRow x) (IsKey y) p q = absurd q
+given_once t (asks.Row table key) (IsKey x) b p q = absurd p
+given_once t (asks.Next table after) (IsRow x) b p q = absurd p
+given_once t (asks.Next table after) (IsKey x) (IsRow y) p q = absurd q
+given_once t (asks.Next table after) (IsKey x) (IsKey y) p q = ap IsKey (next_once t table after x y p q)
+
+agrees_at : (t : Tables) (reads : List ReadValue) (place : ℕ) (read : ReadValue) → Agrees t reads → slice_get reads place ≡ Some read → Gives t read.ask read.answer
+agrees_at t [] place read agrees at = absurd cc
+agrees_at t (r ∷ reads) zero read agrees at = let same : r ≡ read = cc in subst (λ x. Gives t x.ask x.answer) same agrees.0
+agrees_at t (r ∷ reads) (suc place) read agrees at = agrees_at t reads place read agrees.1 at
+
+-- tables that agree with all reads agree with the first that isn't so
+pub unchanged : (t : Tables) (reads : List ReadValue) (place : ℕ) (now : Answer) → Agrees t reads → IsFirstChange t reads place now → ⊥
+unchanged t reads place now agrees change =
+    change.differs (given_once t change.read.ask change.read.answer now (agrees_at t reads place change.read agrees change.stands) change.gives)
+
+agrees_before : (t : Tables) (reads : List ReadValue) (i j : ℕ) (read : ReadValue) → Agrees t (take j reads) → i < j → slice_get reads i ≡ Some read → Gives t read.ask read.answer
+agrees_before t reads i zero read agrees lt at = absurd (omega (arith, lt))
+agrees_before t [] i (suc j) read agrees lt at = absurd cc
+agrees_before t (r ∷ reads) zero (suc j) read agrees lt at = let same : r ≡ read = cc in subst (λ x. Gives t x.ask x.answer) same agrees.0
+agrees_before t (r ∷ reads) (suc i) (suc j) read agrees lt at = agrees_before t reads i j read agrees.1 (omega (arith, lt)) at
+
+-- the first read that isn't what the tables give is one
+pub record SameChange (i j : ℕ) (a b : Answer) : Type 0 where
+  pub places : i ≡ j
+  pub answers : a ≡ b
+
+pub change_once : (t : Tables) (reads : List ReadValue) (i j : ℕ) (a b : Answer) → IsFirstChange t reads i a → IsFirstChange t reads j b → SameChange i j a b
+change_once t reads i j a b x y = record { places = places; answers = given_once t y.read.ask a b (subst (λ r. Gives t r.ask a) read x.gives) y.gives }
+  where
+    sooner : (k l : ℕ) (c d : Answer) → IsFirstChange t reads k c → IsFirstChange t reads l d → k < l → ⊥
+    sooner k l c d first then lt = first.differs (given_once t first.read.ask first.read.answer c (agrees_before t reads k l first.read then.before lt first.stands) first.gives)
+
+    places : i ≡ j
+    places = level i j (sooner i j a b x y) (sooner j i b a y x)
+
+    read : x.read ≡ y.read
+    read = let same : Some x.read ≡ Some y.read = sym x.stands ∙ ap (slice_get reads) places ∙ y.stands in cc
+
+-- what was told is one where contracts see the same
+pub told_one : (a b : Told) → answer_of a ≡ answer_of b → a ≡ b
+told_one (Row a) (Row b) e =
+    let same : seen_of a ≡ seen_of b = cc in
+    λ i. Row (record { kept = (same i).kept; present = (same i).present; values = record { items = (same i).values } })
+told_one (Row a) (Next k) e = absurd cc
+told_one (Next k) (Row b) e = absurd cc
+told_one (Next k) (Next l) e = let same : k ≡ l = cc in ap Next same

@@ -1,3 +1,4 @@
+pub mod Applying
 pub mod Clock
 pub mod Counts
 pub mod Document
@@ -9,6 +10,7 @@ pub mod Legal
 pub mod Made
 pub mod MediumState
 pub mod Mediums
+pub mod OneAnswer
 pub mod Packets
 pub mod Publications
 pub mod Room

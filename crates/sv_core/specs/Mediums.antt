@@ -1,11 +1,13 @@
 -- What all sites share: the document, the history, and the proposal of each session that has one pending: a red operation that waits for its slot.
-use Rattle.std.specs.Prelude.{ℕ, ◌+◌, ◌-◌, List, [], ◌∷◌, set, get_or, Option, Some, None}
+use Rattle.std.specs.Prelude.{◌≡◌, ℕ, ◌+◌, ◌-◌, List, [], ◌∷◌, set, get_or, Option, Some, None}
 use Rattle.sv_value.specs.declared.packets.Packet.{Packet}
 use Rattle.sv_app.specs.declared.requests.Request.{Request}
 use Rattle.sv_core.specs.declared.docs.Doc.{Doc}
+use Rattle.sv_core.specs.declared.docs.Item.TheVariants.{Call}
 use Rattle.sv_core.specs.declared.entries.Entry.{Entry}
 use Rattle.sv_core.specs.Document.{Document, document_of}
-use Rattle.sv_core.specs.History.{History}
+use Rattle.sv_core.specs.History.{History, answered}
+use Rattle.sv_core.specs.Legal.{IsListed}
 
 -- the request, its index, and how many entries stood when it was run
 pub record Proposal : Type 0 where
@@ -24,6 +26,11 @@ doc_of m = document_of m.doc
 
 abbrev pub proposal_of : MediumView → ℕ → Option Proposal
 proposal_of m session = get_or m.proposals (session - 1) None
+
+-- it is for the session's next request, and where the document lists sessions, the session's next item is that call
+pub record IsNextCall (m : MediumView) (session : ℕ) (proposal : Proposal) : Type 0 where
+  pub next : proposal.index ≡ answered m.history session
+  pub listed : IsListed (doc_of m) m.history session (Call proposal.request)
 
 abbrev pub with_proposal : MediumView → ℕ → Option Proposal → MediumView
 with_proposal m session proposal = record { doc = m.doc; history = m.history; proposals = set m.proposals (session - 1) proposal }

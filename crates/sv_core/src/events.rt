@@ -127,6 +127,7 @@ impl SiteState {
         None
     }
 
+    /// Whether the site hasn't the packet.
     fn lacks(&self, packet: &Packet) -> bool
         ensures { IsTrue result ↔ (number packet.now < counts self.now.cut (origin packet.now) → ⊥) }
     {

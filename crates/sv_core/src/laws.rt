@@ -19,6 +19,7 @@ ghost use Rattle.sv_core.specs.Laws.{
   TablesStand,
 };
 ghost use Rattle.sv_core.specs.Made.{PreparedIsSafe};
+ghost use Rattle.sv_core.specs.OneAnswer.{CommitOnce, DeliveryOnce, GoOnce, OrderOnce, SettleOnce};
 ghost use Rattle.sv_core.specs.WorldLaws.{OthersLeave};
 
 /// A request is answered in one way on given tables, and has one label.
@@ -113,4 +114,29 @@ pub fn others_leave()
 /// with what was read, whatever its time, its site and its deps.
 pub fn prepared_is_safe()
     ensures { PreparedIsSafe }
+{}
+
+/// What was prepared is committed with one answer, which leaves one medium.
+pub fn commit_once()
+    ensures { CommitOnce }
+{}
+
+/// An order has one answer, which leaves one medium.
+pub fn order_once()
+    ensures { OrderOnce }
+{}
+
+/// A delivery has one answer.
+pub fn delivery_once()
+    ensures { DeliveryOnce }
+{}
+
+/// What settles at a site is one packet or none, and it leaves one inbox and one history.
+pub fn settle_once()
+    ensures { SettleOnce }
+{}
+
+/// Sending a session to a site has one answer, which leaves one medium.
+pub fn go_once()
+    ensures { GoOnce }
 {}

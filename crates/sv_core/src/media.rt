@@ -48,7 +48,7 @@ impl Medium {
     ghost use Rattle.sv_core.specs.History.{cut_of, published, answers, answered, moved, moves, site_of, seen_of};
     ghost use Rattle.sv_core.specs.Laws.{IsLawful};
     ghost use Rattle.sv_core.specs.Legal.{IsNext, IsApply, IsListed, IsSession};
-    ghost use Rattle.sv_core.specs.Mediums.{doc_of, proposal_of, with_proposal, with_entry};
+    ghost use Rattle.sv_core.specs.Mediums.{IsNextCall, doc_of, proposal_of, with_proposal, with_entry};
     ghost use Rattle.sv_core.specs.MediumState.{IsAwaited, IsPending, IsReply, Publishes, shown, site_in};
     ghost use Rattle.sv_core.specs.Packets.{packets_in};
     ghost use Rattle.sv_core.specs.Room.{lack_of};
@@ -121,10 +121,12 @@ impl Medium {
         self.sessions[session as usize - 1].seen
     }
 
-    /// The index of the session's request whose operation waits for its slot; `None` where none waits.
+    /// The index of the session's request whose operation waits for its slot; `None` where none waits. That request is the
+    /// session's next one.
     pub fn pending(&self, session: u16) -> Option<u32>
         requires { IsSession session }
-        ensures { result ≡ option_map (λ proposal. proposal.index) (proposal_of self.now session) }
+        ensures index { result ≡ option_map (λ proposal. proposal.index) (proposal_of self.now session) }
+        ensures next { IfSome (proposal_of self.now session) (λ proposal. IsNextCall self.now session proposal) }
     {
         match &self.sessions[session as usize - 1].proposal {
             Some(proposal) => Some(proposal.p.index),

@@ -1,7 +1,7 @@
 ghost use Rattle.std.specs.Prelude.{◌≡◌, ◌↔◌, ◌+◌, ◌<◌, ◌≤◌, ◌^◌, ℕ, length, map, IfOk, IsTrue, MatchOption};
 ghost use Rattle.sv_value.specs.Cuts.{counts, more, origin};
 ghost use Rattle.sv_app.specs.Schema.{schema_of};
-ghost use Rattle.sv_effect.specs.Agrees.{Agrees, Gives};
+ghost use Rattle.sv_effect.specs.Agrees.{Agrees};
 ghost use Rattle.sv_effect.specs.BareTables.{bare};
 ghost use Rattle.sv_effect.specs.Reads.{answer_of, read_of};
 ghost use Rattle.sv_core.specs.Document.{document_of};
@@ -9,11 +9,12 @@ ghost use Rattle.sv_core.specs.Events.{IsFirstChange};
 ghost use Rattle.sv_core.specs.Sound.{Sound, IsSite};
 ghost use Rattle.sv_core.specs.Standing.{AreFresh, CanBring, IsBrought, IsFresh};
 
+use crate::applying::told;
 use crate::docs::Doc;
 use std::alloc::Global;
 use std::sync::Arc;
 use sv_causal::Inbox;
-use sv_effect::{Ask, Op, Read, RowStore, Told};
+use sv_effect::{Op, Read, RowStore, Told};
 use sv_pool::PoolStore;
 use sv_value::{Cut, NoMemory, Packet, Site};
 
@@ -39,19 +40,6 @@ fn add(cut: &mut Cut, packet: &Packet)
     match packet {
         Packet::Blue { site, .. } => cut.add_blue(*site),
         Packet::Red { .. } => cut.add_red(),
-    }
-}
-
-/// What the store answers to an ask.
-fn told(rows: &PoolStore, ask: &Ask) -> Told
-    ensures { Gives (bare rows.now.tables) ask.now (answer_of result) }
-{
-    match ask {
-        Ask::Row { table, key } => Told::Row(rows.see(*table, key)),
-        Ask::Next { table, after } => match after {
-            Some(key) => Told::Next(rows.next_after(*table, Some(key))),
-            None => Told::Next(rows.next_after(*table, None)),
-        },
     }
 }
 

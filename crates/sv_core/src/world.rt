@@ -1,4 +1,4 @@
-ghost use Rattle.std.specs.Prelude.{◌≡◌, ◌+◌, ◌<◌, [], ℕ, replicate, length, reverse, None, IfOk};
+ghost use Rattle.std.specs.Prelude.{◌≡◌, ◌+◌, ◌<◌, [], ℕ, replicate, length, reverse, None, IfOk, IfSome};
 ghost use Rattle.std.specs.Option.{option_map};
 ghost use Rattle.sv_value.specs.Cuts.{counts};
 ghost use Rattle.sv_effect.specs.RowsFit.{TablesAreOf};
@@ -45,7 +45,7 @@ impl World {
     ghost use Rattle.sv_core.specs.History.{cut_of, published, answered, moved, moves, seen_of, site_of, tables_at};
     ghost use Rattle.sv_core.specs.Laws.{IsLawful};
     ghost use Rattle.sv_core.specs.Legal.{IsListed, IsSession};
-    ghost use Rattle.sv_core.specs.Mediums.{doc_of, inbox_of, proposal_of, with_history, with_inbox};
+    ghost use Rattle.sv_core.specs.Mediums.{IsNextCall, doc_of, inbox_of, proposal_of, with_history, with_inbox};
     ghost use Rattle.sv_core.specs.MediumState.{CanCommit};
     ghost use Rattle.sv_core.specs.Packets.{finished};
     ghost use Rattle.sv_core.specs.Sound.{Sound, IsSite};
@@ -110,10 +110,12 @@ impl World {
         self.medium.seen(session)
     }
 
-    /// The index of the session's request whose operation waits for its slot; `None` where none waits.
+    /// The index of the session's request whose operation waits for its slot; `None` where none waits. That request is the
+    /// session's next one.
     pub fn pending(&self, session: u16) -> Option<u32>
         requires { IsSession session }
-        ensures { result ≡ option_map (λ proposal. proposal.index) (proposal_of self.now.medium session) }
+        ensures index { result ≡ option_map (λ proposal. proposal.index) (proposal_of self.now.medium session) }
+        ensures next { IfSome (proposal_of self.now.medium session) (λ proposal. IsNextCall self.now.medium session proposal) }
     {
         self.medium.pending(session)
     }

@@ -1,29 +1,19 @@
 -- An ask: what is prepared on a site's tables is answered as the definition says.
-use Rattle.std.proofs.Common.{◌≡◌, ℕ, zero, suc, ◌-◌, true, false, List, [], ◌∷◌, ◌++◌, length, map, reverse, Option, Some, None, slice_get, refl, sym, ap, subst, ◌∙◌, arith}
+use Rattle.std.proofs.Common.{◌≡◌, ℕ, ◌-◌, List, [], ◌∷◌, ◌++◌, length, map, reverse, Option, Some, None, slice_get, refl, sym, ap, subst, ◌∙◌, arith}
 use Rattle.std.proofs.lemmas.List.{reverse-append, length-reverse, get_or-set_same}
-use Rattle.std.specs.declared.cmp.Ordering.{Ordering}
-use Rattle.std.specs.declared.cmp.Ordering.TheVariants.{Less, Equal, Greater}
-use Rattle.std.specs.Ordering.{is_lt}
-use Rattle.sv_value.specs.declared.values.Key.{Key}
 use Rattle.sv_value.specs.Cuts.{Covers}
-use Rattle.sv_value.specs.Orders.{key_cmp}
-use Rattle.sv_value.proofs.OrderLaws.{exact_keys}
 use Rattle.sv_app.specs.declared.requests.Request.{Request}
-use Rattle.sv_app.specs.Tables.{Tables}
 use Rattle.sv_causal.specs.Missing.{IsFirstMissing}
-use Rattle.sv_effect.specs.declared.reads.Ask.{Ask}
-use Rattle.sv_effect.specs.declared.reads.Ask.TheVariants.{Row, Next}
-use Rattle.sv_effect.specs.Agrees.{Agrees, Gives, IsNextKey}
+use Rattle.sv_effect.specs.Agrees.{Agrees}
 use Rattle.sv_effect.specs.BareTables.{bare}
-use Rattle.sv_effect.specs.Reads.{Answer, IsRow, IsKey, ReadValue, read_of}
-use Rattle.sv_effect.proofs.KeyLaws.{below_of}
+use Rattle.sv_effect.specs.Reads.{read_of}
 use Rattle.sv_core.specs.declared.answers.Commit.{Commit}
 use Rattle.sv_core.specs.declared.answers.Commit.TheVariants as commits
 use Rattle.sv_core.specs.declared.entries.Entry.{Entry}
 use Rattle.sv_core.specs.declared.entries.Entry.TheVariants.{Answer as AnswerEntry}
 use Rattle.sv_core.specs.declared.prepared.Prepared.{Prepared}
 use Rattle.sv_core.specs.Document.{Document}
-use Rattle.sv_core.specs.Events.{IsCommit, IsCurrent, IsFirstChange}
+use Rattle.sv_core.specs.Events.{IsCommit, IsCurrent}
 use Rattle.sv_core.specs.History.{History, answered, cut_of, seen_of, tables_at}
 use Rattle.sv_core.specs.Judged.{IsJudged}
 use Rattle.sv_core.specs.Laws.{IsLawful}
@@ -33,41 +23,12 @@ use Rattle.sv_core.specs.MediumState.{CanCommit, IsAwaited}
 use Rattle.sv_core.specs.Mediums.{MediumView, Proposal, WorldView, doc_of, proposal_of, with_entry, with_proposal}
 use Rattle.sv_core.specs.Runs.{run_of}
 use Rattle.sv_core.proofs.Promises.{places_valid}
+use Rattle.sv_core.proofs.ToldLaws.{unchanged}
 use Rattle.sv_report.specs.Lines.{pending_line, short_line, waiting_line}
 use Rattle.sv_report.specs.ReplayText.{IsAsk, Waits, Lacks, Proposes, Answers, IsAskedNow, IsJudgedHere, here, proposed}
 use Rattle.sv_report.specs.Steps.{IsReady, Stepped}
 use Rattle.sv_report.specs.Told.{CanTell, commit_line, entry_line, waits_line}
 use Rattle.sv_workload.specs.declared.parts.Step.TheVariants as steps
-
--- tables give one answer to an ask
-next_once : (t : Tables) (table : ℕ) (after a b : Option Key) → IsNextKey t table after a → IsNextKey t table after b → a ≡ b
-next_once t table after None None x y = refl
-next_once t table after None (Some k) x y = let bad : true ≡ false = sym y.1 ∙ x k y.0 in absurd cc
-next_once t table after (Some k) None x y = let bad : true ≡ false = sym x.1 ∙ y k x.0 in absurd cc
-next_once t table after (Some j) (Some k) x y = by (key_cmp j k) refl
-  where
-    by : (o : Ordering) → key_cmp j k ≡ o → Some j ≡ Some k
-    by Less e = let bad : true ≡ false = sym x.1 ∙ y.2 j x.0 (ap is_lt e) in absurd cc
-    by Equal e = ap Some (exact_keys j k e)
-    by Greater e = let bad : true ≡ false = sym y.1 ∙ x.2 k y.0 (ap is_lt (below_of j k e)) in absurd cc
-
-given_once : (t : Tables) (ask : Ask) (a b : Answer) → Gives t ask a → Gives t ask b → a ≡ b
-given_once t (Row table key) (IsRow x) (IsRow y) p q = ap IsRow (sym p ∙ q)
-given_once t (Row table key) (IsRow x) (IsKey y) p q = absurd q
-given_once t (Row table key) (IsKey x) b p q = absurd p
-given_once t (Next table after) (IsRow x) b p q = absurd p
-given_once t (Next table after) (IsKey x) (IsRow y) p q = absurd q
-given_once t (Next table after) (IsKey x) (IsKey y) p q = ap IsKey (next_once t table after x y p q)
-
-agrees_at : (t : Tables) (reads : List ReadValue) (place : ℕ) (read : ReadValue) → Agrees t reads → slice_get reads place ≡ Some read → Gives t read.ask read.answer
-agrees_at t [] place read agrees at = absurd cc
-agrees_at t (r ∷ reads) zero read agrees at = let same : r ≡ read = cc in subst (λ x. Gives t x.ask x.answer) same agrees.0
-agrees_at t (r ∷ reads) (suc place) read agrees at = agrees_at t reads place read agrees.1 at
-
--- tables that agree with all reads agree with the first that isn't so
-unchanged : (t : Tables) (reads : List ReadValue) (place : ℕ) (now : Answer) → Agrees t reads → IsFirstChange t reads place now → ⊥
-unchanged t reads place now agrees change =
-    change.differs (given_once t change.read.ask change.read.answer now (agrees_at t reads place change.read agrees change.stands) change.gives)
 
 -- the newest entry is the last one in order
 at_end : (entries : List Entry) (e : Entry) → slice_get (entries ++ e ∷ []) (length entries) ≡ Some e

@@ -23,7 +23,7 @@ use Rattle.sv_workload.specs.declared.written.PartHead.{PartHead}
 use Rattle.sv_workload.specs.declared.written.PartHead.TheVariants.{Replay as ReplayHead, Run as RunHead}
 use Rattle.sv_workload.specs.declared.written.Setting.{Setting}
 use Rattle.sv_workload.specs.declared.written.Setting.TheVariants.{Sites, Rows, Changes}
-use Rattle.sv_workload.specs.Written.{Line, Ask, Show, Session}
+use Rattle.sv_workload.specs.Written.{Line, Ask, Order, Deliver, Settle, Catch, Show, Cut, Move, Session}
 
 -- a word stands here, or a number
 abbrev pub BeginsWith : TokenKind → List Token → Type 0
@@ -99,11 +99,23 @@ pub data CallRefused (txns : List Transaction) (tokens : List Token) : Code → 
 
 abbrev pub asks : Line → ℕ
 asks (Ask session c) = 1
-asks _ = 0
+asks (Order session) = 0
+asks (Deliver site sent) = 0
+asks (Settle site) = 0
+asks (Catch site) = 0
+asks (Show site table) = 0
+asks (Cut site) = 0
+asks (Move session site) = 0
 
 abbrev pub shows : Line → ℕ
+shows (Ask session c) = 0
+shows (Order session) = 0
+shows (Deliver site sent) = 0
+shows (Settle site) = 0
+shows (Catch site) = 0
 shows (Show site table) = 1
-shows _ = 0
+shows (Cut site) = 0
+shows (Move session site) = 0
 
 abbrev pub total : {A : Type 0} → (A → ℕ) → List A → ℕ
 total count [] = 0

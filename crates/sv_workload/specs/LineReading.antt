@@ -111,11 +111,23 @@ line_from schema txns sites s tokens = settled (line_mark schema txns sites s to
 
 abbrev pub step_asks : Step → ℕ
 step_asks (steps.Ask session request) = 1
-step_asks _ = 0
+step_asks (steps.Order session) = 0
+step_asks (steps.Deliver site packet) = 0
+step_asks (steps.Settle site) = 0
+step_asks (steps.Catch site) = 0
+step_asks (steps.Show site table) = 0
+step_asks (steps.ShowCut site) = 0
+step_asks (steps.Move session site) = 0
 
 abbrev pub step_shows : Step → ℕ
+step_shows (steps.Ask session request) = 0
+step_shows (steps.Order session) = 0
+step_shows (steps.Deliver site packet) = 0
+step_shows (steps.Settle site) = 0
+step_shows (steps.Catch site) = 0
 step_shows (steps.Show site table) = 1
-step_shows _ = 0
+step_shows (steps.ShowCut site) = 0
+step_shows (steps.Move session site) = 0
 
 -- with one step more
 abbrev pub with_step : Steps → Step → Steps

@@ -28,8 +28,14 @@ pub record IsRequestOf (txns : List Transaction) (request : Request) : Type 0 wh
   pub fits : ArgsFit txn.params request.args
 
 abbrev pub step_moves : Step → ℕ
+step_moves (steps.Ask session request) = 0
+step_moves (steps.Order session) = 0
+step_moves (steps.Deliver site packet) = 0
+step_moves (steps.Settle site) = 0
+step_moves (steps.Catch site) = 0
+step_moves (steps.Show site table) = 0
+step_moves (steps.ShowCut site) = 0
 step_moves (steps.Move session site) = 1
-step_moves _ = 0
 
 -- how many requests the work has, and how often a step of it moves a session
 abbrev pub asks_of : Work → ℕ

@@ -19,7 +19,7 @@ overflow_cast-place c =
 pub returns-in-None : goal.returns-in-None
 returns-in-None c =
     let k = c.self.inside in
-    let e = c.in-None.ensures in
+    let e = c.in-None.ensures.index in
     let long : c.len-place.result ≡ length c.args.self.now.history =
     omega (arith, c.len-place.ensures, k.history.ok.0, length-reverse k.history.items, ap (λ m. length m.history) c.self.view_is) in
     (no_index (proposal_of c.args.self.now c.args.session) (sym e), long, c.add_move.ensures)

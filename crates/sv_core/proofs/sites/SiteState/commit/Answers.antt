@@ -6,7 +6,7 @@ pub returns-in-Some-first_change-clause-answer : goal.returns-in-Some-first_chan
 returns-in-Some-first_change-clause-answer c = (
   refl,
   current_of c.args.m.now c.args.self.now c.args.p c.answered-next.result c.pending.result c.seen.result c.first_missing.result c.requires.stands c.requires.site c.answered-next.ensures
-      (search rules) c.pending.ensures (search rules) c.seen.ensures c.first_missing.ensures (search rules),
+      (search rules) c.pending.ensures.index (search rules) c.seen.ensures c.first_missing.ensures (search rules),
   change_of c.args.m.now c.args.self.now c.args.p c.in-Some-first_change.read _ c.requires.stands c.requires.site (search rules),
   refl,
 )
@@ -15,5 +15,5 @@ pub give-requires-clause-unchanged : goal.give-requires-clause-unchanged
 give-requires-clause-unchanged c =
     unchanged_of c.args.m.now c.args.self.now c.args.p c.requires.stands c.requires.site
     (current_of c.args.m.now c.args.self.now c.args.p c.answered-next.result c.pending.result c.seen.result c.first_missing.result c.requires.stands c.requires.site c.answered-next.ensures
-    (search rules) c.pending.ensures (search rules) c.seen.ensures c.first_missing.ensures (search rules))
+    (search rules) c.pending.ensures.index (search rules) c.seen.ensures c.first_missing.ensures (search rules))
     (search rules)
