@@ -1,21 +1,15 @@
 -- The arms of the calls that list atoms: of a list of parts the first ends what is listed, stops it, or goes on to the others.
-use Rattle.std.proofs.Common.{◌≡◌, ◌∙◌, ℕ, zero, suc, ◌+◌, ◌-◌, ◌<◌, ◌≤◌, Bool, true, false, List, [], ◌∷◌, ◌++◌, length, map, take, drop, get_or, Option, Some, None, Result, Ok, Err, IfOk, IfErr, refl, sym, ap, subst, arith, append-nil}
+use Rattle.std.proofs.Common.{◌≡◌, ◌∙◌, ℕ, zero, suc, ◌-◌, ◌≤◌, Bool, true, false, List, [], ◌∷◌, ◌++◌, length, map, take, drop, get_or, Option, Some, None, Result, IfOk, IfErr, refl, sym, ap, subst, arith}
 use Rattle.std.specs.List.{flat_map, list_any}
-use Rattle.std.specs.Option.{option_map}
-use Rattle.std.proofs.lemmas.List.{take_all, map-append, length-map, length-append}
+use Rattle.std.proofs.lemmas.List.{take_all, length-map, length-append}
 use Rattle.sv_app.specs.declared.reasons.Reason.{Reason}
-use Rattle.sv_app.specs.declared.schemas.Check.{Check}
-use Rattle.sv_app.specs.Schema.{Declaration}
-use Rattle.sv_gains.specs.Gains.{Teller}
 use Rattle.sv_linear.specs.declared.stops.FormStop.{FormStop}
 use Rattle.sv_linear.specs.declared.tests.Atom.{Atom as Coded}
-use Rattle.sv_linear.specs.declared.tests.Test.{Test as CodedTest}
 use Rattle.sv_linear.specs.Atoms.{Asked, ByTest, asked_tests, Group, each_once, is_never, to_never, meets_wide}
 use Rattle.sv_linear.specs.Codes.{atom_of, test_of}
-use Rattle.sv_linear.specs.Effects.{SymEffect}
 use Rattle.sv_linear.specs.Tests.{Test, Atom}
 use Rattle.sv_linear.proofs.SliceLaws.{on_ok, on_err}
-use Rattle.sv_wp.specs.Listing.{AreShortAtoms, atom_by, ends, asked_of, tests_in, tests_from, IsStopIn, IsListed, Lists, ListsAsked}
+use Rattle.sv_wp.specs.Listing.{AreShortAtoms, atom_by, asked_of, tests_in, tests_from, IsStopIn, Lists, ListsAsked}
 use Rattle.sv_wp.proofs.ListingLaws.{whole_group, lists_ended, lists_on, stops_front, stops_back, asked_ended, asked_on, asked_stop_front, asked_stop_back, none_held, held_behind}
 use Rattle.sv_wp.proofs.OnceLaws.{uncut, asked_stops}
 

@@ -1,5 +1,5 @@
 -- What is asked about an invariant is met exactly where it doesn't threaten the change, and whether it does is decided.
-use Rattle.std.proofs.Common.{◌≡◌, ◌∙◌, ◌⊎◌, inl, inr, ℕ, zero, suc, ◌+◌, ◌<◌, Bool, true, false, List, [], ◌∷◌, ◌++◌, length, map, get_or, Option, Some, None, slice_get, refl, sym, ap, subst, arith, All}
+use Rattle.std.proofs.Common.{◌≡◌, ◌∙◌, ◌⊎◌, inl, inr, ℕ, zero, suc, ◌+◌, Bool, true, false, List, [], ◌∷◌, map, Some, slice_get, refl, sym, ap, subst, arith, All}
 use Rattle.std.specs.Prelude.{◌==◌, ◌&&◌, ◌||◌, ◌↔◌, if◌then◌else◌, bytes_eq}
 use Rattle.std.specs.List.{Contains, list_any, flat_map}
 use Rattle.std.proofs.lemmas.List.Elements.{All-nil}
@@ -12,13 +12,13 @@ use Rattle.sv_app.specs.Schema.{Rule, Bound, OneOf, Different, Refers, Invariant
 use Rattle.sv_app.specs.Valid.{IsInvariant}
 use Rattle.sv_app.proofs.ListLaws.{Stands, contained, flat_stands, any_at, any_passes, same_some}
 use Rattle.sv_app.proofs.TestLaws.{same_test, test_same}
-use Rattle.sv_effect.specs.Fits.{EffectFits, SuitsTable}
+use Rattle.sv_effect.specs.Fits.{EffectFits}
 use Rattle.sv_effect.specs.RunChanges.{Effect}
 use Rattle.sv_effect.specs.Threatened.{writes_plain, ByCheck, ByList}
 use Rattle.sv_gains.specs.Gains.{AreGains}
-use Rattle.sv_linear.specs.Atoms.{Gain, Asked, ByCase, asked_tests, tests_by, cases_of, by_check, by_list}
+use Rattle.sv_linear.specs.Atoms.{Gain, ByCase, asked_tests, tests_by, cases_of, by_check, by_list}
 use Rattle.sv_linear.specs.Effects.{SymEffect}
-use Rattle.sv_linear.specs.Tests.{Test, texts_in, lists, is_listed}
+use Rattle.sv_linear.specs.Tests.{texts_in, lists}
 use Rattle.sv_threat.specs.declared.ways.Way.{Way}
 use Rattle.sv_threat.specs.declared.ways.Way.TheVariants as ways
 use Rattle.sv_threat.specs.Laws.{IsJudged}

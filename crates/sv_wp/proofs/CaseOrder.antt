@@ -1,16 +1,14 @@
 -- The cases of a check, one by one, are its cases; and what one of them stops at.
 use Rattle.std.proofs.Common.{◌≡◌, ◌∙◌, ℕ, Bool, true, false, List, [], ◌∷◌, ◌++◌, length, map, Option, Some, None, Result, IfOk, ℤ, refl, sym, ap, subst, append_assoc, append-nil}
-use Rattle.std.specs.Prelude.{◌==◌, ◌&&◌, ◌||◌, not, if◌then◌else◌}
+use Rattle.std.specs.Prelude.{◌&&◌, ◌||◌, not, if◌then◌else◌}
 use Rattle.std.specs.List.{flat_map, list_any}
 use Rattle.std.proofs.lemmas.List.{map-append}
-use Rattle.sv_app.specs.declared.acts.Act.{Act}
 use Rattle.sv_app.specs.declared.reasons.Reason.{Reason}
 use Rattle.sv_app.specs.declared.schemas.Check.{Check}
 use Rattle.sv_app.specs.declared.schemas.Inv.{Inv}
-use Rattle.sv_app.specs.declared.schemas.InvBody.{InvBody}
 use Rattle.sv_app.specs.declared.schemas.InvBody.TheVariants as bodies
 use Rattle.sv_app.specs.Satisfiable.{number_of}
-use Rattle.sv_app.specs.Schema.{Rule, Bound, Invariant, Declaration, invariant_of, rule_of}
+use Rattle.sv_app.specs.Schema.{Declaration, invariant_of, rule_of}
 use Rattle.sv_app.proofs.TestLaws.{same_test}
 use Rattle.sv_gains.specs.Gains.{Teller}
 use Rattle.sv_linear.specs.declared.stops.FormStop.{FormStop}
@@ -19,7 +17,7 @@ use Rattle.sv_linear.specs.declared.tests.Atom.{Atom as Coded}
 use Rattle.sv_linear.specs.Atoms.{Gain, is_insert, is_draw, is_delta, is_set, added_by, made_by, less, write_at, Asked, ByCase, case_if, kept_cases, cases_of, by_check, is_never, tests_by}
 use Rattle.sv_linear.specs.Codes.{atom_of}
 use Rattle.sv_linear.specs.Effects.{SymWrite, SymEffect}
-use Rattle.sv_linear.specs.Forms.{Form, sub, is_narrow}
+use Rattle.sv_linear.specs.Forms.{Form, sub}
 use Rattle.sv_linear.specs.Sums.{IsStopOf}
 use Rattle.sv_linear.specs.Tests.{Atom}
 use Rattle.sv_threat.specs.declared.moves.Case.{Case}

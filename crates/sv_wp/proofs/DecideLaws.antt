@@ -1,38 +1,34 @@
 -- All that is asked of a change stands in the order of reasons, and its atoms decide by which reason it is threatened first.
-use Rattle.std.proofs.Common.{◌≡◌, ◌∙◌, ◌⊎◌, inl, inr, ℕ, zero, suc, ◌+◌, ◌<◌, ◌≤◌, Bool, true, false, List, [], ◌∷◌, ◌++◌, length, map, get_or, Option, Some, None, slice_get, refl, sym, ap, subst, arith, All}
-use Rattle.std.specs.Prelude.{◌||◌}
+use Rattle.std.proofs.Common.{◌≡◌, ◌∙◌, ◌⊎◌, inl, inr, ℕ, zero, suc, ◌+◌, ◌<◌, ◌≤◌, Bool, true, false, List, [], ◌∷◌, ◌++◌, length, map, get_or, Some, slice_get, refl, sym, ap, subst, arith, All}
 use Rattle.std.specs.List.{Contains, flat_map}
-use Rattle.std.proofs.lemmas.List.Elements.{All-nil, All-cons, All-head, All-tail, All-append, All-map, Contains-append_left, Contains-append_right, Contains-append_cases}
+use Rattle.std.proofs.lemmas.List.Elements.{All-nil, All-cons, All-head, All-append, All-map, Contains-append_left, Contains-append_right, Contains-append_cases}
 use Rattle.sv_value.specs.declared.values.Val.{Val}
 use Rattle.sv_app.specs.declared.reasons.Reason.{Reason}
 use Rattle.sv_app.specs.declared.reasons.Reason.TheVariants as reasons
-use Rattle.sv_app.specs.Accepted.{AcceptedSchema}
 use Rattle.sv_app.specs.Conditions.{AreNumberedFrom}
 use Rattle.sv_app.specs.Schema.{Invariant, Declaration}
 use Rattle.sv_app.specs.Valid.{IsInvariant}
 use Rattle.sv_app.proofs.ListLaws.{same_some}
-use Rattle.sv_effect.specs.Fits.{EffectFits}
 use Rattle.sv_effect.specs.RunChanges.{Effect}
-use Rattle.sv_effect.specs.Threatened.{Threatened, is_plain_change, writes_plain, IsThreat}
+use Rattle.sv_effect.specs.Threatened.{Threatened, is_plain_change, IsThreat}
 use Rattle.sv_linear.specs.Atoms as atoms_of
 use Rattle.sv_linear.specs.Atoms.{Gain, Group, groups, for_each, never_where, group_atoms, to_never, atoms}
 use Rattle.sv_linear.specs.Effects.{SymEffect}
-use Rattle.sv_linear.specs.Tests.{Test, Never, Atom}
+use Rattle.sv_linear.specs.Tests.{Never, Atom}
 use Rattle.sv_threat.specs.First.{IsReason}
 use Rattle.sv_threat.specs.FirstThreat.{rank, invariant_in, IsBefore}
-use Rattle.sv_threat.specs.Tests.{By, is_plain_in}
+use Rattle.sv_threat.specs.Tests.{By}
 use Rattle.sv_threat.proofs.PlainLaws.{plain_in, unplain_in}
 use Rattle.sv_threat.proofs.TestLaws.{apart}
 use Rattle.sv_wp.specs.declared.questions.Question.{Question}
 use Rattle.sv_wp.specs.declared.questions.Question.TheVariants.{Unique, Child, Parent, Check as Checked, List as Listed}
-use Rattle.sv_wp.specs.Decides.{AllMet, IsUpTo, Decide, AtomsDecide}
-use Rattle.sv_wp.specs.Gives.{StandsFor, IsMetOn, AreMet}
-use Rattle.sv_wp.specs.Listing.{reason_by, asked_by, group_by, groups_by, in_order, atom_by}
-use Rattle.sv_wp.specs.Told.{TellsGreatest}
+use Rattle.sv_wp.specs.Decides.{IsUpTo, Decide, AtomsDecide}
+use Rattle.sv_wp.specs.Gives.{IsMetOn, AreMet}
+use Rattle.sv_wp.specs.Listing.{reason_by, group_by, groups_by, in_order, atom_by}
 use Rattle.sv_wp.proofs.CaseOrder.{bracketed}
 use Rattle.sv_wp.proofs.AskedLaws.{way_of, IsAsked, asked_means, threat_or}
 use Rattle.sv_wp.proofs.GroupLaws.{GroupsBehind, AreOrdered, AsksUnmet, JudgeGroups, judged_groups}
-use Rattle.sv_wp.proofs.OrderLaws.{all_in, here, alone, nowhere, equal_reasons, not_itself, judged}
+use Rattle.sv_wp.proofs.OrderLaws.{all_in, here, alone, nowhere, equal_reasons, judged}
 use Rattle.sv_wp.proofs.Others.{plain_change}
 
 -- ---- all that is asked, by the questions
@@ -64,7 +60,7 @@ in_flat f (z ∷ xs) x y among inside = by (Contains-append_cases (z ∷ []) xs 
     by (inl first) ih = Contains-append_left (f z) (flat_map f xs) y (subst (λ w. Contains (f w) y) (sym (alone z x first)) inside)
     by (inr later) ih = Contains-append_right (f z) (flat_map f xs) y (ih later)
 
-all_flat : {A B : Type 0} (P : B → Type 0) (f : A → List B) (xs : List A) → ((x : A) → All P (f x)) → All P (flat_map f xs)
+pub all_flat : {A B : Type 0} (P : B → Type 0) (f : A → List B) (xs : List A) → ((x : A) → All P (f x)) → All P (flat_map f xs)
 all_flat P f [] each = All-nil P
 all_flat P f (x ∷ xs) each = All-append P (f x) (flat_map f xs) (each x) (all_flat P f xs each)
 
@@ -76,7 +72,7 @@ get_same (x ∷ xs) (suc k) d c less = get_same xs k d c (omega (arith, less))
 get_in : {A : Type 0} (xs : List A) (k : ℕ) (d : A) → k < length xs → Contains xs (get_or xs k d)
 get_in xs k d less = (k, less, get_same xs k d (get_or xs k d) less)
 
-all_each : (P : Group → Type 0) (group : ℕ → Invariant → Group) (k : ℕ) (ds : List Declaration)
+pub all_each : (P : Group → Type 0) (group : ℕ → Invariant → Group) (k : ℕ) (ds : List Declaration)
     → ((n : ℕ) (d : Declaration) (inv : Invariant) → slice_get ds n ≡ Some d → Contains d.invs inv → P (group (k + n) inv)) → All P (for_each group k ds)
 all_each P group k [] each = All-nil P
 all_each P group k (d ∷ ds) each =

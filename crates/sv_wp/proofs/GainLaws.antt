@@ -1,11 +1,10 @@
 -- The greatest differences of a list of tables, found one by one.
-use Rattle.std.proofs.Common.{◌≡◌, ◌∙◌, ℕ, zero, suc, ◌+◌, ◌<◌, List, [], ◌∷◌, ◌++◌, length, map, take, get_or, Option, Some, None, slice_get, refl, sym, ap, subst, arith, append-nil}
+use Rattle.std.proofs.Common.{◌≡◌, ◌∙◌, ℕ, zero, suc, ◌+◌, ◌<◌, List, [], ◌∷◌, ◌++◌, length, take, get_or, Some, slice_get, refl, sym, ap, subst, arith}
 use Rattle.std.proofs.lemmas.List.{take_more, take_all, map-append}
 use Rattle.sv_app.specs.declared.schemas.Table.{Table}
 use Rattle.sv_app.specs.Accepted.{AcceptedSchema}
 use Rattle.sv_app.specs.Satisfiable.{IsSatisfiable}
 use Rattle.sv_app.specs.Schema.{Declaration, declaration_of, schema_of}
-use Rattle.sv_app.specs.Slots.{item}
 use Rattle.sv_gains.specs.declared.gains.Gain.{Gain as Noted}
 use Rattle.sv_gains.specs.Gains.{AreGains, noted_in}
 use Rattle.sv_gains.specs.Systems.{IsNarrowTable}

@@ -1,5 +1,5 @@
 -- From what is asked for each reason to its atoms: they stand in the order of reasons, and each test stands once.
-use Rattle.std.proofs.Common.{◌≡◌, ◌∙◌, ◌⊎◌, inl, inr, ℕ, zero, suc, Bool, true, false, List, [], ◌∷◌, ◌++◌, map, get_or, refl, sym, ap, subst, arith, All, ℤ}
+use Rattle.std.proofs.Common.{◌≡◌, ◌∙◌, ◌⊎◌, inl, inr, ℕ, Bool, true, false, List, [], ◌∷◌, ◌++◌, map, get_or, refl, sym, subst, arith, All, ℤ}
 use Rattle.std.specs.Prelude.{◌&&◌, ◌||◌, ◌≤ℤ◌, if◌then◌else◌, int_le, nat_eq}
 use Rattle.std.specs.List.{Contains, list_any, flat_map}
 use Rattle.std.specs.Ordering.{int_eq}
@@ -97,7 +97,7 @@ in_once P held (t ∷ ts) before all = by (list_any (same_test t) held) refl all
 
 -- ---- the atoms of a group
 
-mapped : (place : ℕ) (reason : Reason) (P : Atom → Type 0) (ts : List Test) → All (λ t. P (atom_by place reason t)) ts → All P (map (atom_by place reason) ts)
+pub mapped : (place : ℕ) (reason : Reason) (P : Atom → Type 0) (ts : List Test) → All (λ t. P (atom_by place reason t)) ts → All P (map (atom_by place reason) ts)
 mapped place reason P [] all = All-nil P
 mapped place reason P (t ∷ ts) all = All-cons P (atom_by place reason t) (map (atom_by place reason) ts) (All-head (λ t. P (atom_by place reason t)) t ts all)
     (mapped place reason P ts (All-tail (λ t. P (atom_by place reason t)) t ts all))
@@ -137,7 +137,7 @@ atoms_ordered place (g ∷ gs) order =
     ordered_both (group_atoms place g) (flat_map (group_atoms place) gs) (group_ordered place g.reason (each_once [] (flat_map asked_tests g.asked))) (atoms_ordered place gs order.1)
     (λ x among. subst (λ (r : Reason). NoneBefore r (flat_map (group_atoms place) gs)) (sym (reason_of place g x among)) (none_before place g.reason gs order.0))
 
-of_groups : (place : ℕ) (P : Atom → Type 0) (gs : List Group) → All (λ (g : Group). All P (group_atoms place g)) gs → All P (flat_map (group_atoms place) gs)
+pub of_groups : (place : ℕ) (P : Atom → Type 0) (gs : List Group) → All (λ (g : Group). All P (group_atoms place g)) gs → All P (flat_map (group_atoms place) gs)
 of_groups place P [] all = All-nil P
 of_groups place P (g ∷ gs) all = All-append P (group_atoms place g) (flat_map (group_atoms place) gs) (All-head (λ (g : Group). All P (group_atoms place g)) g gs all)
     (of_groups place P gs (All-tail (λ (g : Group). All P (group_atoms place g)) g gs all))

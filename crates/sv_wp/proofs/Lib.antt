@@ -7,9 +7,11 @@ pub mod DecideLaws
 pub mod Decided
 pub mod GainLaws
 pub mod GroupLaws
+pub mod KeptLaws
 pub mod ListingLaws
 pub mod Moves
 pub mod OnceLaws
 pub mod OrderLaws
 pub mod Others
+pub mod ReadLaws
 pub mod Texts

@@ -1,5 +1,5 @@
 -- What is listed of two parts, one behind the other.
-use Rattle.std.proofs.Common.{◌≡◌, ◌∙◌, ℕ, Bool, true, false, List, [], ◌∷◌, ◌++◌, map, All, refl, sym, ap, subst, append_assoc, append-nil}
+use Rattle.std.proofs.Common.{◌≡◌, ◌∙◌, ℕ, Bool, true, false, List, [], ◌∷◌, ◌++◌, map, refl, sym, ap, subst, append_assoc, append-nil}
 use Rattle.std.specs.Prelude.{◌&&◌, ◌||◌, not}
 use Rattle.std.specs.List.{list_any, flat_map}
 use Rattle.std.proofs.lemmas.Grind.{flat_map-append}
@@ -12,7 +12,7 @@ use Rattle.sv_linear.specs.declared.stops.FormStop.TheVariants.{Wide, NoMemory}
 use Rattle.sv_linear.specs.Atoms.{Asked, asked_tests, Group, group_atoms, each_once, is_never, to_never, meets_wide}
 use Rattle.sv_linear.specs.Tests.{Test, Atom}
 use Rattle.sv_wp.specs.Listing.{IsShortTest, AreShortAtoms, atom_by, ends, asked_of, IsStopIn, IsListed, Lists, ListsAsked}
-use Rattle.sv_wp.proofs.OnceLaws.{stops, cut_front, cut_back, once_append, once_never, any_mapped, asked_stops, ends_append, groups_stop, asked_append, wide_append}
+use Rattle.sv_wp.proofs.OnceLaws.{stops, cut_front, cut_back, once_append, once_never, asked_stops, ends_append, groups_stop, asked_append, wide_append}
 
 -- ---- any two parts
 

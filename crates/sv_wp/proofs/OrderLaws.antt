@@ -1,8 +1,8 @@
 -- Atoms in the order of their reasons, cut behind the first that nothing meets, decide by which reason a change is threatened first.
-use Rattle.std.proofs.Common.{◌≡◌, ◌∙◌, ◌⊎◌, inl, inr, ℕ, zero, suc, ◌<◌, Bool, true, false, List, [], ◌∷◌, ◌++◌, length, get_or, Option, Some, None, refl, sym, ap, subst, arith, All, append_assoc}
-use Rattle.std.specs.Prelude.{◌↔◌, if◌then◌else◌}
+use Rattle.std.proofs.Common.{◌≡◌, ◌∙◌, ◌⊎◌, inl, inr, ℕ, zero, suc, ◌<◌, Bool, true, false, List, [], ◌∷◌, ◌++◌, length, get_or, refl, sym, ap, subst, arith, All, append_assoc}
+use Rattle.std.specs.Prelude.{if◌then◌else◌}
 use Rattle.std.specs.List.{Contains}
-use Rattle.std.proofs.lemmas.List.Elements.{All-nil, All-cons, All-head, All-tail, All-append, Contains-append_left, Contains-append_right, Contains-append_cases}
+use Rattle.std.proofs.lemmas.List.Elements.{All-tail, All-append, Contains-append_left, Contains-append_right, Contains-append_cases}
 use Rattle.sv_value.specs.declared.values.Val.{Val}
 use Rattle.sv_app.specs.declared.reasons.Reason.{Reason}
 use Rattle.sv_app.specs.declared.reasons.Reason.TheVariants as reasons
@@ -11,7 +11,7 @@ use Rattle.sv_effect.specs.RunChanges.{Effect}
 use Rattle.sv_effect.specs.Threatened.{Threatened}
 use Rattle.sv_linear.specs.Atoms.{is_never, to_never}
 use Rattle.sv_linear.specs.Tests.{Test, AtMost, InList, Never, Atom}
-use Rattle.sv_threat.specs.First.{IsReason, IsFirstReason}
+use Rattle.sv_threat.specs.First.{IsReason}
 use Rattle.sv_threat.specs.FirstThreat.{rank, invariant_in, IsBefore}
 use Rattle.sv_wp.specs.Gives.{IsMetOn}
 use Rattle.sv_wp.specs.Decides.{AllMet, IsUpTo, Decide}

@@ -27,7 +27,8 @@ IsUpTo reason list = All (λ a. is_never a.test ≡ true → IsBefore a.reason r
 pub record Decide (schema : List Declaration) (change : Effect) (tape : List Val) (list : List Atom) : Type 0 where
   pub each : (reason : Reason) → IsUpTo reason list → All (λ a. a.reason ≡ reason → IsMetOn schema tape a.test) list ↔ (Threatened schema change reason → ⊥)
   pub safe : AllMet schema tape list → IsFirstReason schema change None
-  pub first : (before after : List Atom) (a : Atom) → list ≡ before ++ a ∷ after → AllMet schema tape before → (IsMetOn schema tape a.test → ⊥) → IsFirstReason schema change (Some a.reason)
+  pub first : (before after : List Atom) (a : Atom) → list ≡ before ++ a ∷ after → AllMet schema tape before → (IsMetOn schema tape a.test → ⊥)
+      → IsFirstReason schema change (Some a.reason)
 
 abbrev pub AtomsDecide : Type 0
 AtomsDecide = (schema : List Declaration) (change : Effect) (tape : List Val) (e : SymEffect) (told : Gain) (place : ℕ)

@@ -4,4 +4,5 @@ pub mod Decides
 pub mod Gives
 pub mod Laws
 pub mod Listing
+pub mod Reads
 pub mod Told

@@ -1,6 +1,7 @@
 //! What the tests and the atoms of a change promise.
 
 ghost use Rattle.sv_wp.specs.Decides.{AtomsDecide};
+ghost use Rattle.sv_wp.specs.Reads.{AtomsAreExact, AtomsName};
 ghost use Rattle.sv_wp.specs.Laws.{
   CheckTestsDecide,
   PlainDecides,
@@ -45,4 +46,15 @@ pub fn list_decides()
 /// none does.
 pub fn atoms_decide()
     ensures { AtomsDecide }
+{}
+
+/// Atoms name only symbols that the change names.
+pub fn atoms_name()
+    ensures { AtomsName }
+{}
+
+/// On the tape of a run, where what is written lies between -2^64 and 2^64, an atom holds as it is read exactly where it
+/// is met.
+pub fn atoms_are_exact()
+    ensures { AtomsAreExact }
 {}

@@ -1,4 +1,4 @@
-//! What the atoms of a change in forms say of the concrete changes that it stands for.
+//! The atoms of a change in forms, and what they say of the concrete changes that it stands for.
 #![tactic(auto)]
 
 mod cases;
@@ -11,7 +11,7 @@ mod writes;
 
 pub use gains::{GainTeller, TableGains};
 pub use laws::{
-    atoms_decide, check_tests_decide, child_decides, list_decides, parent_decides, plain_decides,
-    unique_decides,
+    atoms_are_exact, atoms_decide, atoms_name, check_tests_decide, child_decides, list_decides,
+    parent_decides, plain_decides, unique_decides,
 };
 pub use listing::{atoms, atoms_by};

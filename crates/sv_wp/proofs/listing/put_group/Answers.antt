@@ -1,4 +1,4 @@
-use Rattle.std.proofs.Common.{rules, map}
+use Rattle.std.proofs.Common.{map}
 use Rattle.sv_app.specs.Schema.{schema_of}
 use Rattle.sv_linear.specs.Codes.{atom_of, effect_of}
 use Rattle.sv_wp.proofs.CaseOrder.{check_group}
