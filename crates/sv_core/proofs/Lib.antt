@@ -7,6 +7,7 @@ pub mod CountLaws
 pub mod CutLaws
 pub mod EventLaws
 pub mod FactLaws
+pub mod FetchLaws
 pub mod FinishLaws
 pub mod FreshLaws
 pub mod GiveLaws
@@ -18,6 +19,7 @@ pub mod KeepLaws
 pub mod ListLaws
 pub mod MediumLaws
 pub mod OnceLaws
+pub mod PastLaws
 pub mod PreparedLaws
 pub mod Promises
 pub mod PublicationLaws
@@ -25,6 +27,7 @@ pub mod RoomLaws
 pub mod SafeLaws
 pub mod SameLaws
 pub mod SessionLaws
+pub mod SheetLaws
 pub mod SiteLaws
 pub mod StandLaws
 pub mod StartLaws

@@ -15,6 +15,7 @@ pub mod Packets
 pub mod Publications
 pub mod Room
 pub mod Runs
+pub mod Sheets
 pub mod Sound
 pub mod Standing
 pub mod WorldLaws

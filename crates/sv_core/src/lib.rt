@@ -7,6 +7,7 @@ mod applying;
 mod docs;
 mod entries;
 mod events;
+mod fetches;
 mod laws;
 mod media;
 mod numbers;
@@ -14,6 +15,7 @@ mod prepared;
 mod publications;
 mod rows;
 mod sessions;
+mod sheets;
 mod sites;
 mod world;
 
@@ -30,6 +32,7 @@ pub use laws::{
 pub use media::Medium;
 pub use prepared::{Prepared, prepare};
 pub use rows::SiteRows;
+pub use sheets::Sheet;
 pub use sites::SiteState;
 pub use sv_threat::{Label, label_now};
 pub use world::World;

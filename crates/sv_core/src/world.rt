@@ -1,19 +1,24 @@
-ghost use Rattle.std.specs.Prelude.{◌≡◌, ◌+◌, ◌<◌, [], ℕ, replicate, length, reverse, None, IfOk, IfSome};
+ghost use Rattle.std.specs.Prelude.{◌≡◌, ◌+◌, ◌<◌, ◌≤◌, [], ℕ, replicate, length, reverse, false, true, None, IfOk, IfSome};
 ghost use Rattle.std.specs.Option.{option_map};
 ghost use Rattle.sv_value.specs.Cuts.{counts};
+ghost use Rattle.sv_effect.specs.BareTables.{bare};
 ghost use Rattle.sv_effect.specs.RowsFit.{TablesAreOf};
 ghost use Rattle.sv_core.specs.Document.{document_of};
 
 use crate::answers::{Commit, Delivered, Gone, Ordered};
 use crate::docs::Doc;
 use crate::entries::Entry;
+use crate::fetches::fetch;
 use crate::media::Medium;
 use crate::prepared::Prepared;
 use crate::rows::SiteRows;
+use crate::sheets::Sheet;
 use crate::sites::{SiteState, fresh_sites};
 use std::alloc::Global;
 use std::marker::Model;
 use std::sync::Arc;
+use sv_effect::Ask;
+use sv_hub::History;
 use sv_value::{Cut, NoMemory, Packet, Site};
 
 /// The sites of a document under one history. Contracts see the document, the history, which is legal, the operations
@@ -40,6 +45,17 @@ impl Model for World {
     ghost invariant = { λ w. AreStates (document_of w.medium.doc) w.medium.history w.sites.items };
 }
 
+/// Its name is its document.
+impl History for World {
+    type Name = Doc;
+
+    type Item = Entry;
+
+    ghost name = { λ w. w.medium.doc };
+
+    ghost past = { λ w. w.medium.history };
+}
+
 impl World {
     ghost use Rattle.sv_core.specs.Events.{IsCaught, IsCommit, IsDelivery, IsGone, IsOrdered, IsSettled, after_delivery, inbox_after};
     ghost use Rattle.sv_core.specs.History.{cut_of, published, answered, moved, moves, seen_of, site_of, tables_at};
@@ -48,6 +64,7 @@ impl World {
     ghost use Rattle.sv_core.specs.Mediums.{IsNextCall, doc_of, inbox_of, proposal_of, with_history, with_inbox};
     ghost use Rattle.sv_core.specs.MediumState.{CanCommit};
     ghost use Rattle.sv_core.specs.Packets.{finished};
+    ghost use Rattle.sv_core.specs.Sheets.{IsFetch, is_known};
     ghost use Rattle.sv_core.specs.Sound.{Sound, IsSite};
     ghost use Rattle.sv_core.specs.WorldState.{AreStates, inboxes_in};
     ghost use Rattle.sv_core.specs.declared.docs.Item.TheVariants.{Go};
@@ -135,6 +152,20 @@ impl World {
         ensures fit { TablesAreOf (doc_of self.now.medium).schema result.store.now.tables }
     {
         self.sites[site.number() as usize - 1].rows()
+    }
+
+    /// Adds the site's answer to an ask that the sheet doesn't know; and behind an ask for a next key the rows that follow
+    /// it, and which keys follow these, at most 32 rows, of what isn't known and while there is room. Each answer takes
+    /// one place; the number is how many were added. Takes no memory.
+    pub fn fetch(&self, site: Site, ask: &Ask, sheet: &mut Sheet) -> u32
+        requires site { IsSite (doc_of self.now.medium) site }
+        requires sheet { sheet.old.doc ≡ self.now.medium.doc }
+        requires room { 1 ≤ sheet.old.room }
+        requires unknown { is_known sheet.old.known ask.now ≡ false }
+        ensures fetched { IsFetch (bare (tables_at (doc_of self.now.medium) self.now.medium.history site)) ask.now sheet.old result sheet.new }
+        ensures known { is_known sheet.new.known ask.now ≡ true }
+    {
+        fetch(self.site_rows(site).store, ask, sheet)
     }
 
     /// Gives the answer that was prepared, unless something stands against it, which is answered in its place. A red

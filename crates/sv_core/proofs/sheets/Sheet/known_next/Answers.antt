@@ -1,0 +1,23 @@
+use Rattle.std.proofs.Common.{ap, sym, subst, ◌∙◌}
+use Rattle.sv_app.specs.Schema.{schema_of}
+use Rattle.sv_effect.specs.declared.reads.Ask.TheVariants.{Next}
+use Rattle.sv_effect.specs.Agrees.{key_behind}
+use Rattle.sv_effect.specs.Reads.{answer_of}
+use Rattle.sv_core.specs.Sheets.{AnswerFits, IsAnswered, Knows}
+use Rattle.sv_core.proofs.SheetLaws.{known_in, place_within}
+use Rattle.sv_core.proofs.sheets.Sheet.known_next.Goals as goal
+
+pub unreachable-requires : goal.unreachable-requires
+unreachable-requires c =
+    subst (λ told. AnswerFits (schema_of c.args.self.now.doc.app.tables.items) (Next c.args.table (key_behind c.args.after)) (answer_of told)) c.in-Row.is
+    (subst (λ asked. Knows c.args.self.now asked (answer_of c.index.result.now.told)) c.next_ask-ask.ensures
+    (known_in _ _ _ _ _ _ _ c.index.result.now c.self.view_is c.self.invariant.0 c.as_slice.ensures.value c.in_ok-place.ensures c.index.ensures)).fits
+
+pub invariant_of-self : goal.invariant_of-self
+invariant_of-self c = (c.self.invariant.0, c.self.invariant.1, place_within _ _ _ _ c.as_slice.ensures.value c.in_ok-place.ensures)
+
+pub returns-clause-some : goal.returns-clause-some
+returns-clause-some c =
+    subst (λ answer. Knows c.args.self.now (Next c.args.table (key_behind c.args.after)) answer) (ap answer_of c.in-Next.is)
+    (subst (λ asked. Knows c.args.self.now asked (answer_of c.index.result.now.told)) c.next_ask-ask.ensures
+    (known_in _ _ _ _ _ _ _ c.index.result.now c.self.view_is c.self.invariant.0 c.as_slice.ensures.value c.in_ok-place.ensures c.index.ensures))
