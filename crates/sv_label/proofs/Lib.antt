@@ -1,0 +1,4 @@
+pub mod DecideLaws
+pub mod FailLaws
+pub mod FindLaws
+pub mod GroupLaws
