@@ -42,14 +42,16 @@ pub not_so : (b : Bool) {P : Type 0} → IsTrue b ↔ P → b ≡ false → P �
 not_so b {P} f e h = let so : IsTrue b = f.1 h in absurd cc
 
 -- an atom that holds changes nothing
-none_more : (schema : List Declaration) (tape : List Val) (before : List Atom) (a : Atom) → IsFirstOf schema tape before None → TestHolds schema tape (test_of a.test) → IsFirstOf schema tape (before ++ a ∷ []) None
+none_more : (schema : List Declaration) (tape : List Val) (before : List Atom) (a : Atom) → IsFirstOf schema tape before None → TestHolds schema tape (test_of a.test)
+    → IsFirstOf schema tape (before ++ a ∷ []) None
 none_more schema tape before a none h m other e fails = by_place (pushed before a m other e)
   where
     by_place : IsPushed before a m other → ⊥
     by_place (Earlier is) = none m other is fails
     by_place (Last p q) = fails (subst (λ b. TestHolds schema tape (test_of b.test)) (sym q) h)
 
-some_more : (schema : List Declaration) (tape : List Val) (before : List Atom) (a : Atom) (f : Failed) → IsFirst schema tape before f → TestHolds schema tape (test_of a.test) → IsFirst schema tape (before ++ a ∷ []) f
+some_more : (schema : List Declaration) (tape : List Val) (before : List Atom) (a : Atom) (f : Failed) → IsFirst schema tape before f → TestHolds schema tape (test_of a.test)
+    → IsFirst schema tape (before ++ a ∷ []) f
 some_more schema tape before a f is h = record {
   number = is.number;
   atom = is.atom;
@@ -64,12 +66,14 @@ some_more schema tape before a f is h = record {
     by_place m other fails sooner (Earlier at) = is.first m other at fails sooner
     by_place m other fails sooner (Last p q) = fails (subst (λ b. TestHolds schema tape (test_of b.test)) (sym q) h)
 
-pub held_on : (schema : List Declaration) (tape : List Val) (before : List Atom) (a : Atom) (held : Option Failed) → IsFirstOf schema tape before held → TestHolds schema tape (test_of a.test) → IsFirstOf schema tape (before ++ a ∷ []) held
+pub held_on : (schema : List Declaration) (tape : List Val) (before : List Atom) (a : Atom) (held : Option Failed) → IsFirstOf schema tape before held
+    → TestHolds schema tape (test_of a.test) → IsFirstOf schema tape (before ++ a ∷ []) held
 held_on schema tape before a None none h = none_more schema tape before a none h
 held_on schema tape before a (Some f) is h = some_more schema tape before a f is h
 
 -- the first that fails
-pub fails_first : (schema : List Declaration) (tape : List Val) (before : List Atom) (a : Atom) → IsFirstOf schema tape before None → Fails schema tape a → IsFirst schema tape (before ++ a ∷ []) (failed_by a)
+pub fails_first : (schema : List Declaration) (tape : List Val) (before : List Atom) (a : Atom) → IsFirstOf schema tape before None → Fails schema tape a
+    → IsFirst schema tape (before ++ a ∷ []) (failed_by a)
 fails_first schema tape before a none fails = record {
   number = length before;
   atom = a;
@@ -86,7 +90,8 @@ fails_first schema tape before a none fails = record {
     by_place m other more (inr both) (Last p q) = let less : m < length before = both.1 in omega (arith, less, p)
 
 -- one that fails behind a first one: of a lesser place it is the first
-lesser : (schema : List Declaration) (tape : List Val) (before : List Atom) (a : Atom) (f : Failed) → IsFirst schema tape before f → Fails schema tape a → a.place < f.place → IsFirst schema tape (before ++ a ∷ []) (failed_by a)
+lesser : (schema : List Declaration) (tape : List Val) (before : List Atom) (a : Atom) (f : Failed) → IsFirst schema tape before f → Fails schema tape a → a.place < f.place
+    → IsFirst schema tape (before ++ a ∷ []) (failed_by a)
 lesser schema tape before a f is fails less = record {
   number = length before;
   atom = a;
@@ -127,7 +132,8 @@ by_test : (schema : List Declaration) (tape : List Val) (before : List Atom) (a 
 by_test schema tape before a f true e is fails = lesser schema tape before a f is fails (grind (arith, e))
 by_test schema tape before a f false e is fails = not_lesser schema tape before a f is (grind (arith, e))
 
-pub fails_more : (schema : List Declaration) (tape : List Val) (before : List Atom) (a : Atom) (f : Failed) → IsFirst schema tape before f → Fails schema tape a → IsFirst schema tape (before ++ a ∷ []) (sooner f a)
+pub fails_more : (schema : List Declaration) (tape : List Val) (before : List Atom) (a : Atom) (f : Failed) → IsFirst schema tape before f → Fails schema tape a
+    → IsFirst schema tape (before ++ a ∷ []) (sooner f a)
 fails_more schema tape before a f is fails = by_test schema tape before a f (nat_lt a.place f.place) refl is fails
 
 one_more : (ks : List KeptAtom) (j : ℕ) (k : KeptAtom) → j < length ks → k ≡ get_or ks j k → map (λ k. k.atom) (take (suc j) ks) ≡ map (λ k. k.atom) (take j ks) ++ k.atom ∷ []

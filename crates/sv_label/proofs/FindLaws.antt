@@ -30,7 +30,8 @@ not_both false e h = absurd cc
 meet : (a b c : List Bool) → Same a b ≡ true → Same a c ≡ true → Same c b ≡ true
 meet a b c p q = sym ((lists_equiv bool_eq_equiv).congr a c b q) ∙ p
 
-template_more : (ts : List (List Bool × Template)) (choices other : List Bool) (t : Template) → template_of choices ts ≡ None → template_of other (ts ++ (choices, t) ∷ []) ≡ cond (Same other choices) (Some t) (template_of other ts)
+template_more : (ts : List (List Bool × Template)) (choices other : List Bool) (t : Template) → template_of choices ts ≡ None
+    → template_of other (ts ++ (choices, t) ∷ []) ≡ cond (Same other choices) (Some t) (template_of other ts)
 template_more [] choices other t none = refl
 template_more (e ∷ ts) choices other t none =
     let both : (Same choices e.0 ≡ false) × (template_of choices ts ≡ None) = none_by (Same choices e.0) e.1 (template_of choices ts) none in
@@ -81,7 +82,8 @@ put_first true p t o e = refl
 put_first false p t o e = absurd cc
 
 step : (b q s p : Bool) (g : Group) (gs now : List Group) (k n : ℕ) (choices other : List Bool) (t : Template) → is_of k n g ≡ q → (s ≡ true → q ≡ b) → (b ≡ true → q ≡ true → s ≡ true)
-    → (b ≡ true → template_of other (g.templates ++ (choices, t) ∷ []) ≡ cond p (Some t) (template_of other g.templates)) → (b ≡ false → found now k n other ≡ cond (s && p) (Some t) (found gs k n other))
+    → (b ≡ true → template_of other (g.templates ++ (choices, t) ∷ []) ≡ cond p (Some t) (template_of other g.templates))
+    → (b ≡ false → found now k n other ≡ cond (s && p) (Some t) (found gs k n other))
     → found (cond b (with_template g choices t ∷ gs) (g ∷ now)) k n other ≡ cond (s && p) (Some t) (found (g ∷ gs) k n other)
 step true true s p g gs now k n choices other t is same both here later =
     ap (λ q. cond q (template_of other (g.templates ++ (choices, t) ∷ [])) (found gs k n other)) is ∙ here refl ∙ put_first s p t (template_of other g.templates) (both refl refl)

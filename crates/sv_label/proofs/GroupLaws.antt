@@ -30,7 +30,8 @@ found_by true m choices rest o e = template_is choices m.entries
 found_by false m choices rest o e = e
 
 -- a look-up in two steps
-pub found_is : {S : Type 0} (es : List ((ℕ × ℕ) × IndexMap (Vec Bool) Template S)) (txn unit : ℕ) (choices : List Bool) → found (groups_in es) txn unit choices ≡ template_in choices (lookup (is_unit txn unit) es)
+pub found_is : {S : Type 0} (es : List ((ℕ × ℕ) × IndexMap (Vec Bool) Template S)) (txn unit : ℕ) (choices : List Bool)
+    → found (groups_in es) txn unit choices ≡ template_in choices (lookup (is_unit txn unit) es)
 found_is [] txn unit choices = refl
 found_is (e ∷ es) txn unit choices = found_by (is_unit txn unit e.0) e.1 choices (found (groups_in es) txn unit choices) (lookup (is_unit txn unit) es) (found_is es txn unit choices)
 
@@ -47,7 +48,8 @@ added_last (e ∷ es) txn unit choices t none =
     ap (λ b. cond b (with_template (group_of e) choices t ∷ groups_in es) (group_of e ∷ added (groups_in es) txn unit choices t)) both.0 ∙ ap (λ gs. group_of e ∷ gs) (added_last es txn unit choices t both.1)
 
 -- one more in a group that is there
-more_in : {S : Type 0} (k : ℕ × ℕ) (m w : IndexMap (Vec Bool) Template S) (choices : Vec Bool) (t : Template) → w.entries ≡ m.entries ++ (choices, t) ∷ [] → group_of (k, w) ≡ with_template (group_of (k, m)) choices.items t
+more_in : {S : Type 0} (k : ℕ × ℕ) (m w : IndexMap (Vec Bool) Template S) (choices : Vec Bool) (t : Template) → w.entries ≡ m.entries ++ (choices, t) ∷ []
+    → group_of (k, w) ≡ with_template (group_of (k, m)) choices.items t
 more_in k m w choices t e = ap (λ ts. record { txn = k.0; unit = k.1; templates = ts }) (ap templates_in e ∙ map-append (λ e. (e.0.items, e.1)) m.entries ((choices, t) ∷ []))
 
 set_by : {S : Type 0} (b : Bool) (e : (ℕ × ℕ) × IndexMap (Vec Bool) Template S) (es : List ((ℕ × ℕ) × IndexMap (Vec Bool) Template S)) (m w : IndexMap (Vec Bool) Template S) (choices : Vec Bool) (t : Template) (later now : List ((ℕ × ℕ) × IndexMap (Vec Bool) Template S))
@@ -58,7 +60,8 @@ set_by true e es m w choices t later now gs o is more ih =
     ap (λ g. g ∷ groups_in es) (more_in e.0 e.1 w choices t (subst (λ m. w.entries ≡ m.entries ++ (choices, t) ∷ []) (sym same) more))
 set_by false e es m w choices t later now gs o is more ih = ap (λ gs. group_of e ∷ gs) (ih is)
 
-pub added_there : {S : Type 0} (es : List ((ℕ × ℕ) × IndexMap (Vec Bool) Template S)) (txn unit : ℕ) (m w : IndexMap (Vec Bool) Template S) (choices : Vec Bool) (t : Template) → lookup (is_unit txn unit) es ≡ Some m → w.entries ≡ m.entries ++ (choices, t) ∷ []
+pub added_there : {S : Type 0} (es : List ((ℕ × ℕ) × IndexMap (Vec Bool) Template S)) (txn unit : ℕ) (m w : IndexMap (Vec Bool) Template S) (choices : Vec Bool) (t : Template)
+    → lookup (is_unit txn unit) es ≡ Some m → w.entries ≡ m.entries ++ (choices, t) ∷ []
     → groups_in (set_value (is_unit txn unit) es w) ≡ added (groups_in es) txn unit choices.items t
 added_there [] txn unit m w choices t is more = absurd cc
 added_there (e ∷ es) txn unit m w choices t is more =
@@ -72,7 +75,8 @@ unset_by true e es now m w o is same ih =
     ap (λ ts. record { txn = e.0.0; unit = e.0.1; templates = templates_in ts } ∷ groups_in es) (same ∙ ap (λ m. m.entries) (sym one))
 unset_by false e es now m w o is same ih = ap (λ gs. group_of e ∷ gs) (ih is)
 
-pub same_there : {S : Type 0} (es : List ((ℕ × ℕ) × IndexMap (Vec Bool) Template S)) (txn unit : ℕ) (m w : IndexMap (Vec Bool) Template S) → lookup (is_unit txn unit) es ≡ Some m → w.entries ≡ m.entries → groups_in (set_value (is_unit txn unit) es w) ≡ groups_in es
+pub same_there : {S : Type 0} (es : List ((ℕ × ℕ) × IndexMap (Vec Bool) Template S)) (txn unit : ℕ) (m w : IndexMap (Vec Bool) Template S) → lookup (is_unit txn unit) es ≡ Some m
+    → w.entries ≡ m.entries → groups_in (set_value (is_unit txn unit) es w) ≡ groups_in es
 same_there [] txn unit m w is same = absurd cc
 same_there (e ∷ es) txn unit m w is same =
     unset_by (is_unit txn unit e.0) e es (set_value (is_unit txn unit) es w) m w (lookup (is_unit txn unit) es) is same (λ h. same_there es txn unit m w h same)
@@ -81,7 +85,8 @@ same_there (e ∷ es) txn unit m w is same =
 long_more : (g : Group) (choices : List Bool) (t : Template) → length (with_template g choices t).templates ≡ suc (length g.templates)
 long_more g choices t = let long : length (g.templates ++ (choices, t) ∷ []) ≡ length g.templates + 1 = length-append g.templates ((choices, t) ∷ []) in omega (arith, long)
 
-entries_by : (b : Bool) (g : Group) (gs now : List Group) (choices : List Bool) (t : Template) → entries now ≡ suc (entries gs) → entries (cond b (with_template g choices t ∷ gs) (g ∷ now)) ≡ suc (entries (g ∷ gs))
+entries_by : (b : Bool) (g : Group) (gs now : List Group) (choices : List Bool) (t : Template) → entries now ≡ suc (entries gs)
+    → entries (cond b (with_template g choices t ∷ gs) (g ∷ now)) ≡ suc (entries (g ∷ gs))
 entries_by true g gs now choices t e = let long : length (with_template g choices t).templates ≡ suc (length g.templates) = long_more g choices t in omega (arith, long)
 entries_by false g gs now choices t e = let more : entries now ≡ suc (entries gs) = e in omega (arith, more)
 
@@ -130,7 +135,8 @@ long_templates [] = refl
 long_templates (e ∷ es) = ap (λ n. suc n) (long_templates es)
 
 -- what stands at a place
-pub group_there : {S : Type 0} (es : List ((ℕ × ℕ) × IndexMap (Vec Bool) Template S)) (g : ℕ) (e : (ℕ × ℕ) × IndexMap (Vec Bool) Template S) → slice_get es g ≡ Some e → group_at (groups_in es) g ≡ group_of e
+pub group_there : {S : Type 0} (es : List ((ℕ × ℕ) × IndexMap (Vec Bool) Template S)) (g : ℕ) (e : (ℕ × ℕ) × IndexMap (Vec Bool) Template S) → slice_get es g ≡ Some e
+    → group_at (groups_in es) g ≡ group_of e
 group_there [] g e is = absurd cc
 group_there (x ∷ es) zero e is = let same : x ≡ e = cc in ap group_of same
 group_there (x ∷ es) (suc g) e is = group_there es g e is
@@ -141,10 +147,12 @@ template_there (x ∷ es) zero e is = let same : x ≡ e = cc in ap (λ e. Some 
 template_there (x ∷ es) (suc at) e is = template_there es at e is
 
 -- what a look-up finds, by the groups that contracts see
-pub look_none : {S : Type 0} (es : List ((ℕ × ℕ) × IndexMap (Vec Bool) Template S)) (gs : List Group) (txn unit : ℕ) (choices : List Bool) → groups_in es ≡ gs → lookup (is_unit txn unit) es ≡ None → found gs txn unit choices ≡ None
+pub look_none : {S : Type 0} (es : List ((ℕ × ℕ) × IndexMap (Vec Bool) Template S)) (gs : List Group) (txn unit : ℕ) (choices : List Bool) → groups_in es ≡ gs
+    → lookup (is_unit txn unit) es ≡ None → found gs txn unit choices ≡ None
 look_none es gs txn unit choices e none = subst (λ gs. found gs txn unit choices ≡ None) e (found_is es txn unit choices ∙ ap (template_in choices) none)
 
-pub look_some : {S : Type 0} (es : List ((ℕ × ℕ) × IndexMap (Vec Bool) Template S)) (gs : List Group) (txn unit : ℕ) (choices : List Bool) (m : IndexMap (Vec Bool) Template S) → groups_in es ≡ gs → lookup (is_unit txn unit) es ≡ Some m
+pub look_some : {S : Type 0} (es : List ((ℕ × ℕ) × IndexMap (Vec Bool) Template S)) (gs : List Group) (txn unit : ℕ) (choices : List Bool) (m : IndexMap (Vec Bool) Template S)
+    → groups_in es ≡ gs → lookup (is_unit txn unit) es ≡ Some m
     → found gs txn unit choices ≡ lookup (has_choices choices) m.entries
 look_some es gs txn unit choices m e some = subst (λ gs. found gs txn unit choices ≡ lookup (has_choices choices) m.entries) e (found_is es txn unit choices ∙ ap (template_in choices) some)
 
@@ -152,5 +160,6 @@ look_some es gs txn unit choices m e some = subst (λ gs. found gs txn unit choi
 pub insert_first : {K X : Type 0} (eq : K → K → Bool) (old now : List (K × X)) (k : K) (x : X) → old ≡ [] → now ≡ insert_entry eq old k x → now ≡ (k, x) ∷ []
 insert_first eq old now k x none is = is ∙ ap (λ es. insert_entry eq es k x) none
 
-pub group_seen : {S : Type 0} (es : List ((ℕ × ℕ) × IndexMap (Vec Bool) Template S)) (gs : List Group) (g : ℕ) (e : (ℕ × ℕ) × IndexMap (Vec Bool) Template S) → groups_in es ≡ gs → slice_get es g ≡ Some e → group_at gs g ≡ group_of e
+pub group_seen : {S : Type 0} (es : List ((ℕ × ℕ) × IndexMap (Vec Bool) Template S)) (gs : List Group) (g : ℕ) (e : (ℕ × ℕ) × IndexMap (Vec Bool) Template S) → groups_in es ≡ gs
+    → slice_get es g ≡ Some e → group_at gs g ≡ group_of e
 group_seen es gs g e is at = subst (λ gs. group_at gs g ≡ group_of e) is (group_there es g e at)

@@ -34,7 +34,8 @@ pub ends : (s : System) (all : List Atom) (left : Left) → Leads s all left [] 
 ends s all left l =
     subst (AreLeft s 0 all) (same_joined left None ∙ ap (λ n. record { kept = left.kept; dropped = left.dropped; never = n }) (sym l.never)) (l.on (nothing_left None) (End (length left.kept)))
 
-pub stops : (s : System) (all : List Atom) (left : Left) (a : Atom) (rest : List Atom) (after : Left) → Leads s all left (a ∷ rest) → is_never a.test ≡ true → after ≡ record { kept = left.kept; dropped = left.dropped; never = Some a }
+pub stops : (s : System) (all : List Atom) (left : Left) (a : Atom) (rest : List Atom) (after : Left) → Leads s all left (a ∷ rest) → is_never a.test ≡ true
+    → after ≡ record { kept = left.kept; dropped = left.dropped; never = Some a }
     → AreLeft s 0 all after
 stops s all left a rest after l e is =
     subst (AreLeft s 0 all) (same_joined left (Some a) ∙ sym is) (l.on (nothing_left (Some a)) (Stop (length left.kept) a rest e))
@@ -60,7 +61,8 @@ drops s all left a rest d l is = record {
       (l.on (dropping d behind) (Drop (length left.kept) a rest d behind is later));
 }
 
-pub goes_on : (s : System) (all : List Atom) (left : Left) (a : Atom) (rest : List Atom) (j : Judged) (after : Left) → Leads s all left (a ∷ rest) → is_never a.test ≡ false → IsJudged s (false_row a.test) j
+pub goes_on : (s : System) (all : List Atom) (left : Left) (a : Atom) (rest : List Atom) (j : Judged) (after : Left) → Leads s all left (a ∷ rest) → is_never a.test ≡ false
+    → IsJudged s (false_row a.test) j
     → after ≡ with_judged left a j → Leads s all after rest
 goes_on s all left a rest (found.Kept shown) after l e is same =
     subst (λ left. Leads s all left rest) (sym same) (keeps s all left a rest (record { atom = a; shown = shown }) l (record { same = refl; possible = e; shows = is }))
@@ -72,21 +74,26 @@ pub record Stands (facts : List Diff) (symbols : ℕ) (begun : List source.Atom)
   pub over : AreAtoms symbols (map atom_of items)
   pub leads : Leads (system_of facts symbols) (map atom_of begun) (left_of left) (map atom_of items)
 
-pub stands_first : (facts : List Diff) (symbols : ℕ) (begun given : List source.Atom) (left : code.Left) → begun ≡ given → AreAtoms symbols (map atom_of given) → left_of left ≡ nothing_left None → Stands facts symbols begun left begun
+pub stands_first : (facts : List Diff) (symbols : ℕ) (begun given : List source.Atom) (left : code.Left) → begun ≡ given → AreAtoms symbols (map atom_of given)
+    → left_of left ≡ nothing_left None → Stands facts symbols begun left begun
 stands_first facts symbols begun given left e over none = record { over = subst (λ l. AreAtoms symbols (map atom_of l)) (sym e) over; leads = begins _ _ (left_of left) none }
 
-later : (facts : List Diff) (symbols : ℕ) (begun items rest : List source.Atom) (left : code.Left) (a : source.Atom) → items ≡ a ∷ rest → Stands facts symbols begun left items → Stands facts symbols begun left (a ∷ rest)
+later : (facts : List Diff) (symbols : ℕ) (begun items rest : List source.Atom) (left : code.Left) (a : source.Atom) → items ≡ a ∷ rest → Stands facts symbols begun left items
+    → Stands facts symbols begun left (a ∷ rest)
 later facts symbols begun items rest left a e st = subst (λ l. Stands facts symbols begun left l) e st
 
-pub stands_over : (facts : List Diff) (symbols : ℕ) (begun items rest : List source.Atom) (left : code.Left) (a : source.Atom) (s : System) → items ≡ a ∷ rest → s ≡ system_of facts symbols → Stands facts symbols begun left items → IsOver s (test_of a.test)
+pub stands_over : (facts : List Diff) (symbols : ℕ) (begun items rest : List source.Atom) (left : code.Left) (a : source.Atom) (s : System) → items ≡ a ∷ rest
+    → s ≡ system_of facts symbols → Stands facts symbols begun left items → IsOver s (test_of a.test)
 stands_over facts symbols begun items rest left a s e is st = record {
   symbols = symbols;
   vars = ap (λ s. s.vars) is;
   names = All-head (λ a. IsTestOf symbols a.test) (atom_of a) (map atom_of rest) (later facts symbols begun items rest left a e st).over;
 }
 
-pub stands_next : (facts : List Diff) (symbols : ℕ) (begun items rest : List source.Atom) (left after : code.Left) (a : source.Atom) (s : System) (j : Judged) → items ≡ a ∷ rest → s ≡ system_of facts symbols
-    → is_never (test_of a.test) ≡ false → IsJudged s (false_row (test_of a.test)) j → left_of after ≡ with_judged (left_of left) (atom_of a) j → Stands facts symbols begun left items → Stands facts symbols begun after rest
+pub stands_next : (facts : List Diff) (symbols : ℕ) (begun items rest : List source.Atom) (left after : code.Left) (a : source.Atom) (s : System) (j : Judged) → items ≡ a ∷ rest
+    → s ≡ system_of facts symbols
+    → is_never (test_of a.test) ≡ false → IsJudged s (false_row (test_of a.test)) j → left_of after ≡ with_judged (left_of left) (atom_of a) j → Stands facts symbols begun left items
+    → Stands facts symbols begun after rest
 stands_next facts symbols begun items rest left after a s j e is other found same st =
     let now : Stands facts symbols begun left (a ∷ rest) = later facts symbols begun items rest left a e st in
     record {
@@ -94,11 +101,14 @@ stands_next facts symbols begun items rest left after a s j e is other found sam
       leads = goes_on _ _ (left_of left) (atom_of a) (map atom_of rest) j (left_of after) now.leads other (subst (λ s. IsJudged s (false_row (test_of a.test)) j) is found) same;
     }
 
-pub stands_stop : (facts : List Diff) (symbols : ℕ) (begun given items rest : List source.Atom) (left after : code.Left) (a : source.Atom) → begun ≡ given → items ≡ a ∷ rest → is_never (test_of a.test) ≡ true
-    → left_of after ≡ record { kept = (left_of left).kept; dropped = (left_of left).dropped; never = Some (atom_of a) } → Stands facts symbols begun left items → IsLeft facts symbols (map atom_of given) (left_of after)
+pub stands_stop : (facts : List Diff) (symbols : ℕ) (begun given items rest : List source.Atom) (left after : code.Left) (a : source.Atom) → begun ≡ given → items ≡ a ∷ rest
+    → is_never (test_of a.test) ≡ true
+    → left_of after ≡ record { kept = (left_of left).kept; dropped = (left_of left).dropped; never = Some (atom_of a) } → Stands facts symbols begun left items
+    → IsLeft facts symbols (map atom_of given) (left_of after)
 stands_stop facts symbols begun given items rest left after a f e never same st =
     subst (λ l. IsLeft facts symbols (map atom_of l) (left_of after)) f (stops _ _ (left_of left) (atom_of a) (map atom_of rest) (left_of after) (later facts symbols begun items rest left a e st).leads never same)
 
-pub stands_last : (facts : List Diff) (symbols : ℕ) (begun given items : List source.Atom) (left : code.Left) → begun ≡ given → items ≡ [] → Stands facts symbols begun left items → IsLeft facts symbols (map atom_of given) (left_of left)
+pub stands_last : (facts : List Diff) (symbols : ℕ) (begun given items : List source.Atom) (left : code.Left) → begun ≡ given → items ≡ [] → Stands facts symbols begun left items
+    → IsLeft facts symbols (map atom_of given) (left_of left)
 stands_last facts symbols begun given items left f e st =
     subst (λ l. IsLeft facts symbols (map atom_of l) (left_of left)) f (ends _ _ (left_of left) (subst (λ l. Leads (system_of facts symbols) (map atom_of begun) (left_of left) (map atom_of l)) e st.leads))

@@ -82,7 +82,8 @@ apart_value f d tape e =
 above_holds : (v x y most : ℤ) → v ≡ (x -ℤ y) → ((y -ℤ x) ≤ℤ neg_ℤ (most +ℤ pos 1)) ↔ (most <ℤ v)
 above_holds v x y most e = (λ h. omega (arith, ints, e, h), λ h. omega (arith, ints, e, h))
 
-row_says : (f : Form) (most : ℤ) (row : Diff) (tape : List Val) (o : Option Difference) → apart f ≡ o → option_map (λ d. above_row d.x d.y (most +ℤ pos 1)) o ≡ Some row → HoldsOn tape row ↔ (most <ℤ value f tape)
+row_says : (f : Form) (most : ℤ) (row : Diff) (tape : List Val) (o : Option Difference) → apart f ≡ o → option_map (λ d. above_row d.x d.y (most +ℤ pos 1)) o ≡ Some row
+    → HoldsOn tape row ↔ (most <ℤ value f tape)
 row_says f most row tape None e is = absurd cc
 row_says f most row tape (Some d) e is =
     let same : above_row d.x d.y (most +ℤ pos 1) ≡ row = cc in
@@ -102,7 +103,8 @@ not_more facts row cycle f most tape true less e all is =
     no_cycle (facts ++ row ∷ []) (number_at tape) cycle (meets_more facts row tape all ((false_rows_say f most row tape e).1 more)) is
 not_more facts row cycle f most tape false less e all is = grind (arith, ints, less)
 
-held_by : (facts : List Diff) (symbols : ℕ) (cycle : List ℕ) (f : Form) (most : ℤ) (tape : List Val) (o : Option Diff) → false_row (AtMost f most) ≡ o → facts_hold tape facts → HasCycle (system_of facts symbols) o cycle → value f tape ≤ℤ most
+held_by : (facts : List Diff) (symbols : ℕ) (cycle : List ℕ) (f : Form) (most : ℤ) (tape : List Val) (o : Option Diff) → false_row (AtMost f most) ≡ o → facts_hold tape facts
+    → HasCycle (system_of facts symbols) o cycle → value f tape ≤ℤ most
 held_by facts symbols cycle f most tape None e all is = absurd is
 held_by facts symbols cycle f most tape (Some row) e all is = not_more facts row cycle f most tape (int_lt most (value f tape)) refl e all is
 
@@ -111,7 +113,8 @@ held facts symbols cycle (AtMost f most) tape all is = held_by facts symbols cyc
 held facts symbols cycle (InList symbol number) tape all is = absurd is
 held facts symbols cycle Never tape all is = absurd is
 
-all_held : (facts : List Diff) (symbols before : ℕ) (atoms : List Atom) (left : Left) (tape : List Val) → AreLeft (system_of facts symbols) before atoms left → facts_hold tape facts → All (λ d. IsMostOn tape d.atom.test) left.dropped
+all_held : (facts : List Diff) (symbols before : ℕ) (atoms : List Atom) (left : Left) (tape : List Val) → AreLeft (system_of facts symbols) before atoms left → facts_hold tape facts
+    → All (λ d. IsMostOn tape d.atom.test) left.dropped
 all_held facts symbols before atoms left tape (End _) all = All-nil _
 all_held facts symbols before atoms left tape (Stop _ _ _ _) all = All-nil _
 all_held facts symbols before atoms left tape (Keep _ _ tail k more _ later) all = all_held facts symbols _ tail more tape later all
