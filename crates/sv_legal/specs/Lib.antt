@@ -1,0 +1,5 @@
+pub mod Before
+pub mod Findings
+pub mod Grown
+pub mod Told
+pub mod Turns
