@@ -92,22 +92,58 @@ fn damaged_answer(alloc: Global, entry: Entry, damage: Damage) -> Result<Entry, 
     })
 }
 
+/// What a site is with the damage.
+fn damaged_site(number: Site, damage: Damage) -> Result<Site, Fail> {
+    match damage {
+        Damage::Site(other) => site(other),
+        Damage::Dropped
+        | Damage::Twice
+        | Damage::Session(_)
+        | Damage::Index(_)
+        | Damage::At(_)
+        | Damage::Refused
+        | Damage::Full
+        | Damage::Done(..)
+        | Damage::Label(_)
+        | Damage::Packet(_) => Ok(number),
+    }
+}
+
+/// What a packet is with the damage.
+fn damaged_packet(named: Packet, damage: Damage) -> Result<Packet, Fail> {
+    match damage {
+        Damage::Packet(other) => packet(other),
+        Damage::Dropped
+        | Damage::Twice
+        | Damage::Session(_)
+        | Damage::Index(_)
+        | Damage::Site(_)
+        | Damage::At(_)
+        | Damage::Refused
+        | Damage::Full
+        | Damage::Done(..)
+        | Damage::Label(_) => Ok(named),
+    }
+}
+
 /// The entry with the damage.
 fn damaged(alloc: Global, entry: Entry, damage: Damage) -> Result<Entry, Fail> {
-    match (entry, damage) {
-        (Entry::Apply { packet, .. }, Damage::Site(other)) => Ok(Entry::Apply {
-            site: site(other)?,
-            packet,
+    match entry {
+        Entry::Answer { .. } => damaged_answer(alloc, entry, damage),
+        Entry::Apply {
+            site: number,
+            packet: named,
+        } => Ok(Entry::Apply {
+            site: damaged_site(number, damage)?,
+            packet: damaged_packet(named, damage)?,
         }),
-        (Entry::Apply { site, .. }, Damage::Packet(name)) => Ok(Entry::Apply {
-            site,
-            packet: packet(name)?,
-        }),
-        (Entry::Move { session, .. }, Damage::Site(other)) => Ok(Entry::Move {
+        Entry::Move {
             session,
-            site: site(other)?,
+            site: number,
+        } => Ok(Entry::Move {
+            session,
+            site: damaged_site(number, damage)?,
         }),
-        (entry, damage) => damaged_answer(alloc, entry, damage),
     }
 }
 
