@@ -1,1 +1,3 @@
 pub mod FoundLaws
+pub mod LeftLaws
+pub mod PathLaws
