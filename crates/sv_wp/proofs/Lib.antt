@@ -10,6 +10,7 @@ pub mod GroupLaws
 pub mod KeptLaws
 pub mod ListingLaws
 pub mod Moves
+pub mod NarrowLaws
 pub mod OnceLaws
 pub mod OrderLaws
 pub mod Others

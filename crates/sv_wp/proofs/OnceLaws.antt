@@ -76,7 +76,7 @@ held_never t (u ∷ held) none any = by (same_test t u) refl (is_never u) refl n
     by true is false never none any ih = same_never t u is ∙ never
     by false is false never none any ih = ih none any
 
-none_more : (t : Test) (held : List Test) → list_any is_never held ≡ false → is_never t ≡ false → list_any is_never (held ++ t ∷ []) ≡ false
+pub none_more : (t : Test) (held : List Test) → list_any is_never held ≡ false → is_never t ≡ false → list_any is_never (held ++ t ∷ []) ≡ false
 none_more t held none one = list_any-append is_never held (t ∷ []) ∙ (λ i. none i || (one i || false))
 
 pub once_never : (held ts : List Test) → list_any is_never held ≡ false → list_any is_never (each_once held ts) ≡ list_any is_never ts

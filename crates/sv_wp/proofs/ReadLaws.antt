@@ -90,7 +90,7 @@ atoms_name among told schema e place all = kept_atoms (TestIs among) (WriteIs am
 
 -- ---- values
 
-word_within : (n : ℤ) → is_word n ≡ true → Within (2 ^ 63) n
+pub word_within : (n : ℤ) → is_word n ≡ true → Within (2 ^ 63) n
 word_within n e = by (int_le (neg_ℤ (pos (2 ^ 63))) n) refl (int_le n (pos (2 ^ 63 - 1))) refl e
   where
     by : (a : Bool) → int_le (neg_ℤ (pos (2 ^ 63))) n ≡ a → (b : Bool) → int_le n (pos (2 ^ 63 - 1)) ≡ b → (a && b) ≡ true → Within (2 ^ 63) n
@@ -114,13 +114,13 @@ fitting (pos n) w = record { sfits = omega (arith, ints, w.high) }
 fitting (negsuc n) w = record { sfits = omega (arith, ints, w.low) }
 
 module _ (schema : List Declaration) (tape : List Val) where
+  abbrev pub Exact : Test → Type 0
+  Exact t = TestHolds schema tape t ↔ IsMetOn schema tape t
+
   -- its value lies between -2^64 and 2^64, and its constant is one of 64 bits
   record Short (f : Form) : Type 0 where
     of_value : Within (2 ^ 64) (value f tape)
     of_plus : Within (2 ^ 63) f.plus
-
-  abbrev Exact : Test → Type 0
-  Exact t = TestHolds schema tape t ↔ IsMetOn schema tape t
 
   abbrev ShortWrite : SymWrite → Type 0
   ShortWrite (Delta f) = Short f
@@ -135,26 +135,31 @@ module _ (schema : List Declaration) (tape : List Val) where
   fits : (v : ℤ) → Within (2 ^ 67) v → int_wrap w128 v ≡ v
   fits v w = int_wrap_fits w128 v (fitting v w)
 
-  exact_terms : (f g : Form) (ts : List (ℕ × ℤ)) (most : ℤ) → ts ≡ (sub f g).terms → Short f → Short g → All Exact (terms_at_most ts most)
-  exact_terms f g [] most is p q = by (int_le (pos 0) most)
+  exact_terms : (f g : Form) (ts : List (ℕ × ℤ)) (most : ℤ) → ts ≡ (sub f g).terms → Within (2 ^ 64) (value f tape) → Within (2 ^ 64) (value g tape) → Within (2 ^ 64) (sub f g).plus
+      → All Exact (terms_at_most ts most)
+  exact_terms f g [] most is p q c = by (int_le (pos 0) most)
     where
       by : (b : Bool) → All Exact (if b then [] else Never ∷ [])
       by true = All-nil Exact
       by false = All-cons Exact Never [] (λ h. h, λ h. h) (All-nil Exact)
-  exact_terms f g (t ∷ ts) most is p q =
+  exact_terms f g (t ∷ ts) most is p q c =
       All-cons Exact (AtMost (record { terms = t ∷ ts; plus = pos 0 }) most) [] (same (AtMost (record { terms = t ∷ ts; plus = pos 0 }) most) (ap (λ n. n ≤ℤ most) (fits _ bounded))) (All-nil Exact)
     where
       bounded : Within (2 ^ 67) (pos 0 +ℤ terms_value (t ∷ ts) tape)
       bounded =
-          let whole : ((f.plus +ℤ neg_ℤ g.plus) +ℤ terms_value (t ∷ ts) tape) ≡ (value f tape -ℤ value g tape) = ap (λ us. (sub f g).plus +ℤ terms_value us tape) is ∙ sub_value f g tape in
-          record {
-            low = omega (arith, ints, whole, p.of_value.low, p.of_value.high, q.of_value.low, q.of_value.high, p.of_plus.low, p.of_plus.high, q.of_plus.low, q.of_plus.high);
-            high = omega (arith, ints, whole, p.of_value.low, p.of_value.high, q.of_value.low, q.of_value.high, p.of_plus.low, p.of_plus.high, q.of_plus.low, q.of_plus.high);
-          }
+          let whole : ((sub f g).plus +ℤ terms_value (t ∷ ts) tape) ≡ (value f tape -ℤ value g tape) = ap (λ us. (sub f g).plus +ℤ terms_value us tape) is ∙ sub_value f g tape in
+          record { low = omega (arith, ints, whole, p.low, p.high, q.low, q.high, c.low, c.high); high = omega (arith, ints, whole, p.low, p.high, q.low, q.high, c.low, c.high) }
 
-  exact_tests : (f g : Form) (most : Option ℤ) → Short f → Short g → All Exact (tests_by (sub f g) most)
-  exact_tests f g None p q = All-cons Exact Never [] (λ h. h, λ h. h) (All-nil Exact)
-  exact_tests f g (Some most) p q = exact_terms f g (sub f g).terms (most -ℤ (sub f g).plus) refl p q
+  pub exact_tests : (f g : Form) (most : Option ℤ) → Within (2 ^ 64) (value f tape) → Within (2 ^ 64) (value g tape) → ((m : ℤ) → most ≡ Some m → Within (2 ^ 64) (sub f g).plus)
+      → All Exact (tests_by (sub f g) most)
+  exact_tests f g None p q c = All-cons Exact Never [] (λ h. h, λ h. h) (All-nil Exact)
+  exact_tests f g (Some most) p q c = exact_terms f g (sub f g).terms (most -ℤ (sub f g).plus) refl p q (c most refl)
+
+  plus_short : (f g : Form) → Short f → Short g → Within (2 ^ 64) (sub f g).plus
+  plus_short f g p q = record {
+    low = omega (arith, ints, p.of_plus.low, p.of_plus.high, q.of_plus.low, q.of_plus.high);
+    high = omega (arith, ints, p.of_plus.low, p.of_plus.high, q.of_plus.low, q.of_plus.high);
+  }
 
   exact_kept : Keeps Exact ShortWrite Short
   exact_kept = record {
@@ -162,7 +167,7 @@ module _ (schema : List Declaration) (tape : List Val) where
     zero_side = zero_short;
     delta = λ f p. p;
     set = λ v p. p;
-    at_most = exact_tests;
+    at_most = λ f g most p q. exact_tests f g most p.of_value q.of_value (λ m is. plus_short f g p q);
     listed = λ symbol number p. (λ h. h, λ h. h);
   }
 

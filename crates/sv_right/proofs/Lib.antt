@@ -1,0 +1,5 @@
+pub mod DecideLaws
+pub mod FoundLaws
+pub mod LeftLaws
+pub mod PathLaws
+pub mod PlaceLaws

@@ -1,0 +1,6 @@
+//! What is known of an application before any run is right: laws alone.
+#![tactic(auto)]
+
+mod laws;
+
+pub use laws::frugal_decides;
