@@ -5,7 +5,6 @@ use Rattle.std.proofs.lemmas.List.{map-append}
 use Rattle.sv_app.specs.declared.apps.Ident.{Ident}
 use Rattle.sv_app.specs.declared.instances.Source.{Source}
 use Rattle.sv_app.specs.declared.instances.Source.TheVariants as sources
-use Rattle.sv_app.specs.declared.names.Meaning.TheVariants.{Row as RowOf, Constant}
 use Rattle.sv_app.specs.declared.schemas.Column.{Column}
 use Rattle.sv_app.specs.declared.schemas.Merge.{Merge}
 use Rattle.sv_app.specs.declared.schemas.Merge.TheVariants as merges
@@ -44,7 +43,7 @@ use Rattle.sv_app.specs.Paths.{
   block_path,
 }
 use Rattle.sv_app.specs.Schema.{Declaration}
-use Rattle.sv_app.specs.Scopes.{Scope, knowing}
+use Rattle.sv_app.specs.Scopes.{Scope}
 use Rattle.sv_app.specs.Symbols.{is_known, is_factor, is_key_column}
 use Rattle.sv_app.specs.Trees.{Term, Number, Words, Variable, Field, Old, Minus, Sum, Difference, Product, Test, Compare, Negation, Both, Either, Command, Declare, Assign, Fetch, Choose, ForRows, ForEach, Insert, Fresh, Update, Remove, Abort, Reply, Block, Finish, Then}
 use Rattle.sv_app.specs.TxnTyping.{behind}
