@@ -7,9 +7,11 @@ pub mod LoopLaws
 mod LostLaws
 mod NamingLaws
 mod PlaceLaws
+mod PlainLaws
 mod Relation
 mod RouteLaws
 mod RunLaws
+mod ScopeLaws
 mod ShapeLaws
 mod StepLaws
 mod SuitLaws

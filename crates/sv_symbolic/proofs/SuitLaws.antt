@@ -1,5 +1,5 @@
 -- The effects of a route are suited: by its statements, and for each unit.
-use Rattle.std.proofs.Common.{◌≡◌, ◌∙◌, ℕ, zero, suc, pos, if◌then◌else◌, Bool, true, false, List, [], ◌∷◌, ◌++◌, map, Option, Some, None, slice_get, refl, sym, ap, subst}
+use Rattle.std.proofs.Common.{◌≡◌, ◌∙◌, ℕ, zero, suc, if◌then◌else◌, Bool, true, false, List, [], ◌∷◌, ◌++◌, map, Option, Some, None, slice_get, refl, sym, ap, subst}
 use Rattle.std.specs.Option.{option_map}
 use Rattle.std.proofs.lemmas.List.Elements.{All-nil, All-cons, All-append}
 use Rattle.std.proofs.lemmas.Option.{slice_get-map}
@@ -8,34 +8,27 @@ use Rattle.sv_app.specs.declared.acts.Act.TheVariants as acts
 use Rattle.sv_app.specs.declared.apps.Ident.{Ident}
 use Rattle.sv_app.specs.declared.instances.Source.{Source}
 use Rattle.sv_app.specs.declared.instances.Source.TheVariants as sources
-use Rattle.sv_app.specs.declared.names.Meaning.TheVariants.{Row as RowOf, Constant}
-use Rattle.sv_app.specs.declared.requests.Arg.{Arg}
-use Rattle.sv_app.specs.declared.requests.Arg.TheVariants as args
 use Rattle.sv_app.specs.declared.schemas.Column.{Column}
 use Rattle.sv_app.specs.declared.schemas.Merge.{Merge}
 use Rattle.sv_app.specs.declared.schemas.Merge.TheVariants as merges
 use Rattle.sv_app.specs.declared.schemas.Ty.{Ty}
 use Rattle.sv_app.specs.declared.schemas.Ty.TheVariants as types
 use Rattle.sv_app.specs.Accepted.{AcceptedSchema}
-use Rattle.sv_app.specs.Fitting.{ArgFits, ArgsFit}
 use Rattle.sv_app.specs.Paths.{type_of, column_type, columns_at, type_in, merge_in}
 use Rattle.sv_app.specs.Schema.{Declaration}
-use Rattle.sv_app.specs.Scopes.{Scope, knowing, opening}
+use Rattle.sv_app.specs.Scopes.{Scope}
 use Rattle.sv_app.specs.Slots.{item}
 use Rattle.sv_app.specs.Symbols as symbols
 use Rattle.sv_app.specs.Symbols.{is_same_source, is_known, block_assigns}
 use Rattle.sv_app.specs.Trees.{Term, Command, Declare, Assign, Fetch, Choose, ForRows, ForEach, Insert, Fresh, Update, Remove, Abort, Reply, Block, Finish, Then}
 use Rattle.sv_app.specs.TxnTyping.{behind}
-use Rattle.sv_app.specs.Units.{Loop, command_loops, block_loops, units}
 use Rattle.sv_app.specs.Writes.{in_order}
 use Rattle.sv_app.proofs.AcceptedLaws.{no_lists}
 use Rattle.sv_effect.specs.Fits.{AreWrites, Ascending, columns_written}
 use Rattle.sv_effect.specs.RunChanges.{outside_key}
 use Rattle.sv_linear.specs.Effects.{SymValue, SymWrite, SymEffect}
-use Rattle.sv_trace.specs.Standing.{Frame, IsFrame, names_in, Suits, BlockSuits, SetsSuit, behind_set, Allows, AreOfColumns, AreDrawn}
+use Rattle.sv_trace.specs.Standing.{Frame, names_in, Suits, BlockSuits, SetsSuit, behind_set, Allows, AreOfColumns, AreDrawn}
 use Rattle.sv_trace.proofs.InsertLaws.{all_written}
-use Rattle.sv_trace.proofs.OpeningLaws.{body_in}
-use Rattle.sv_trace.proofs.UnitLaws.{Each}
 use Rattle.sv_trace.proofs.WriteLaws.{Suited, AreFrom, from_next, from_here, from_start, ordered_writes, ordered}
 use Rattle.sv_symbolic.specs.Drawn.{writes_on}
 use Rattle.sv_symbolic.specs.Routes.{Route, Aborts, TooFew, Leads, then_route, on_drawn, on_tried, on_declared, set_form, with_effect, forgetting, draw_delta, draw_set, draw_sets, draw_inserts, first_writes, draw_command, draw_block, first_sketch}
@@ -44,6 +37,7 @@ use Rattle.sv_symbolic.specs.Suited.{IsSuited, EffectsSuit}
 use Rattle.sv_symbolic.proofs.DrawLaws.{known_end, same_source}
 use Rattle.sv_symbolic.proofs.KindLaws.{plain, plain_same, kind, kinds, source_type, Typed, Made, made_then, Judged, Lists, typed_symbol, typed_old, typed_term, typed_terms, judged, firsts_listed, typed_inserts, SetsTyped, typed_sets}
 use Rattle.sv_symbolic.proofs.PlaceLaws.{fewer_known}
+use Rattle.sv_symbolic.proofs.ScopeLaws.{frame_of, unit_in}
 use Rattle.sv_symbolic.proofs.WriteLaws.{ordered_on}
 
 plain_map : {A : Type 0} (g : A → Ty) (xs : List A) → map (λ x. plain (g x)) xs ≡ map plain (map g xs)
@@ -243,71 +237,13 @@ module _ (f : Frame) (accepted : AcceptedSchema f.schema) (tape : List Val) wher
     typed_block Finish at k suits typed = typed
     typed_block (Then c b) at k suits typed = typed_then (draw_command f.schema (names_in f) c k) (draw_block f.schema (names_in f) b) (typed_command c at k suits.0 typed) (λ u is. typed_block b (behind at c) u suits.1 is)
 
--- the bodies of loops suit as well
-record InScope (f : Frame) (b : Block) : Type 0 where
-  at : Scope
-  suits : BlockSuits f at b
-
-each_both : {A : Type 0} (P : A → Type 0) (xs ys : List A) → Each P xs → Each P ys → Each P (xs ++ ys)
-each_both P [] ys one other = other
-each_both P (x ∷ xs) ys one other = (one.0, each_both P xs ys one.1 other)
-
-mutual
-  command_loops_suit : (f : Frame) (c : Command) (at : Scope) → Suits f at c → Each (λ (l : Loop). InScope f l.body) (command_loops c)
-  command_loops_suit f (Declare x e) at suits = tt
-  command_loops_suit f (Assign x e) at suits = tt
-  command_loops_suit f (Fetch r t key) at suits = tt
-  command_loops_suit f (Choose c ys ns) at suits = each_both (λ (l : Loop). InScope f l.body) (block_loops ys) (block_loops ns) (block_loops_suit f ys at suits.1) (block_loops_suit f ns at suits.2)
-  command_loops_suit f (ForRows r t c body) at suits = (record { at = knowing at r (RowOf t); suits = suits.2 }, block_loops_suit f body (knowing at r (RowOf t)) suits.2)
-  command_loops_suit f (ForEach x l body) at suits = (record { at = knowing at x Constant; suits = suits.2 }, block_loops_suit f body (knowing at x Constant) suits.2)
-  command_loops_suit f (Insert t vs) at suits = tt
-  command_loops_suit f (Fresh x t vs) at suits = tt
-  command_loops_suit f (Update t key ss) at suits = tt
-  command_loops_suit f (Remove t key) at suits = tt
-  command_loops_suit f (Abort n) at suits = tt
-  command_loops_suit f (Reply e) at suits = tt
-
-  block_loops_suit : (f : Frame) (b : Block) (at : Scope) → BlockSuits f at b → Each (λ (l : Loop). InScope f l.body) (block_loops b)
-  block_loops_suit f Finish at suits = tt
-  block_loops_suit f (Then c b) at suits = each_both (λ (l : Loop). InScope f l.body) (command_loops c) (block_loops b) (command_loops_suit f c at suits.0) (block_loops_suit f b (behind at c) suits.1)
-
-of_loop : (f : Frame) (ls : List Loop) (n : ℕ) (b : Block) → Each (λ (l : Loop). InScope f l.body) ls → slice_get (map (λ (l : Loop). l.body) ls) n ≡ Some b → InScope f b
-of_loop f [] zero b each e = absurd cc
-of_loop f [] (suc n) b each e = absurd cc
-of_loop f (l ∷ ls) zero b each e = let same : l.body ≡ b = cc in subst (InScope f) same each.0
-of_loop f (l ∷ ls) (suc n) b each e = of_loop f ls n b each.1 e
-
-of_unit : (f : Frame) (at : Scope) (whole : Block) (n : ℕ) (b : Block) → BlockSuits f at whole → slice_get (units whole) n ≡ Some b → InScope f b
-of_unit f at whole zero b suits e = let same : whole ≡ b = cc in subst (InScope f) same (record { at = at; suits = suits })
-of_unit f at whole (suc n) b suits e = of_loop f (block_loops whole) n b (block_loops_suit f whole at suits) e
-
--- some arguments fit
-abbrev some_arg : Ty → Arg
-some_arg types.Int = args.Int (pos 0)
-some_arg types.Text = args.Text []
-some_arg types.Ints = args.Ints []
-
-abbrev some_args : List (Ident × Ty) → List Arg
-some_args [] = []
-some_args (p ∷ ps) = some_arg p.1 ∷ some_args ps
-
-arg_fits : (ty : Ty) → ArgFits ty (some_arg ty)
-arg_fits types.Int = tt
-arg_fits types.Text = tt
-arg_fits types.Ints = tt
-
-args_fit : (ps : List (Ident × Ty)) → ArgsFit ps (some_args ps)
-args_fit [] = tt
-args_fit (p ∷ ps) = (arg_fits p.1, args_fit ps)
-
 typed_to : (f : Frame) (tape : List Val) (accepted : AcceptedSchema f.schema) (end : Sketch) (body : Block) (choices : List Bool) → draw_block f.schema (names_in f) body (first_sketch choices) ≡ Leads end
     → RouteTyped f accepted tape (draw_block f.schema (names_in f) body (first_sketch choices)) → Typed f.schema (names_in f) tape 0 end
 typed_to f tape accepted end body choices is typed = subst (RouteTyped f accepted tape) is typed
 
 pub effects_suit : EffectsSuit
 effects_suit schema txns number unit txn body choices end tape accepted among at is =
-    let f : Frame = record { schema = schema; txns = txns; number = number; txn = txn; args = some_args txn.params; first = pos 0 } in
-    let frame : IsFrame f = record { accepted = accepted; among = among; fits = args_fit txn.params } in
-    let scope = of_unit f (opening schema txn.params) txn.body unit body (body_in f frame).suits at in
+    let f : Frame = frame_of schema txns number txn in
+    let scope = unit_in schema txns number unit txn body accepted among at in
     let begin : Typed schema (names_in f) tape 0 (first_sketch choices) = record { sources = λ q known. absurd cc; olds = λ c known. absurd cc; effects = All-nil (IsSuited schema tape) } in
     (typed_to f tape accepted.tables end body choices is (typed_block f accepted.tables tape body scope.at (first_sketch choices) scope.suits begin)).effects

@@ -7,3 +7,4 @@ pub mod Routes
 pub mod Sketches
 pub mod States
 pub mod Suited
+pub mod Typed

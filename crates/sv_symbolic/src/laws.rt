@@ -3,6 +3,7 @@
 ghost use Rattle.sv_symbolic.specs.Executes.{ShapesTell};
 ghost use Rattle.sv_symbolic.specs.Laws.{FormsHold, RoutesAreClosed, RoutesArePaths};
 ghost use Rattle.sv_symbolic.specs.Suited.{EffectsSuit};
+ghost use Rattle.sv_symbolic.specs.Typed.{SymbolsAreTyped};
 
 /// A route goes along exactly as its path does: it aborts, has too few choices or leads on where the path does, with
 /// the same choices left and the same symbols.
@@ -21,6 +22,12 @@ pub fn routes_are_closed()
 /// their type.
 pub fn effects_suit()
     ensures { EffectsSuit }
+{}
+
+/// The symbols that the effects of a route of an accepted application name are of the types that they are used as: a
+/// form names integers, and where a symbol stands for a text it is one.
+pub fn symbols_are_typed()
+    ensures { SymbolsAreTyped }
 {}
 
 /// Of each run of an accepted application on rows of its tables, each entry of the trace goes along a route of its

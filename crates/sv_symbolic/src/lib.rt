@@ -14,5 +14,7 @@ mod tables;
 mod values;
 mod writes;
 
-pub use laws::{effects_suit, forms_hold, routes_are_closed, routes_are_paths, shapes_tell};
+pub use laws::{
+    effects_suit, forms_hold, routes_are_closed, routes_are_paths, shapes_tell, symbols_are_typed,
+};
 pub use shapes::{ShapeStop, execute};
