@@ -46,9 +46,10 @@ kept_all P s before list left (Drop _ a more d rest is later) all = kept_all P s
 kept_rise : (s : System) (before : ℕ) (list : List Atom) (left : Left) → AreLeft s before list left → Rising list → Rising (left_to left)
 kept_rise s before list left (End _) rising = tt
 kept_rise s before list left (Stop _ a more e) rising = (All-nil (λ (b : Atom). a.place ≤ b.place), tt)
-kept_rise s before list left (Keep _ a more k rest is later) rising =
-    (subst (λ (x : Atom). All (λ (b : Atom). x.place ≤ b.place) (left_to rest)) (sym is.same) (kept_all (λ (b : Atom). a.place ≤ b.place) s (suc before) more rest later rising.0),
-    kept_rise s (suc before) more rest later rising.1)
+kept_rise s before list left (Keep _ a more k rest is later) rising = (
+  subst (λ (x : Atom). All (λ (b : Atom). x.place ≤ b.place) (left_to rest)) (sym is.same) (kept_all (λ (b : Atom). a.place ≤ b.place) s (suc before) more rest later rising.0),
+  kept_rise s (suc before) more rest later rising.1,
+)
 kept_rise s before list left (Drop _ a more d rest is later) rising = kept_rise s before more rest later rising.1
 
 rises_to : (list : List Atom) (j m : ℕ) (b a : Atom) → Rising list → j < m → slice_get list j ≡ Some b → slice_get list m ≡ Some a → b.place ≤ a.place
@@ -166,9 +167,10 @@ module _ (schema : List Declaration) (tape : List Val) (t : Template) where
     -- the first that fails
     pub first_unmet : (m : ℕ) (x : Coded) → slice_get (asked t) m ≡ Some x → Fails x → ((j : ℕ) (y : Coded) → slice_get (asked t) j ≡ Some y → Fails y → IsBefore j y m x → ⊥)
         → StandsBehind Met list (atom_of x) × (Met (atom_of x) → ⊥)
-    first_unmet m x at fails first =
-        (stands_behind Met _ 0 list (left_of t.left) m (atom_of x) is.left dropped here (λ j b less at_b. met_unless j b at_b (λ y at_y same fails_y. first j y at_y fails_y (sooner j b less at_b y same))),
-        λ met. fails ((all_at (λ (a : Atom). Exact schema tape a.test) (left_to (left_of t.left)) m (atom_of x) kept_reads here).1 met))
+    first_unmet m x at fails first = (
+      stands_behind Met _ 0 list (left_of t.left) m (atom_of x) is.left dropped here (λ j b less at_b. met_unless j b at_b (λ y at_y same fails_y. first j y at_y fails_y (sooner j b less at_b y same))),
+      λ met. fails ((all_at (λ (a : Atom). Exact schema tape a.test) (left_to (left_of t.left)) m (atom_of x) kept_reads here).1 met),
+    )
       where
         here : slice_get (left_to (left_of t.left)) m ≡ Some (atom_of x)
         here = sym (ap (λ l. slice_get l m) (asked_are t)) ∙ slice_get-map atom_of (asked t) m ∙ ap (option_map atom_of) at

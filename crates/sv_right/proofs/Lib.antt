@@ -1,5 +1,7 @@
+pub mod CoverLaws
 pub mod DecideLaws
 pub mod FoundLaws
 pub mod LeftLaws
+pub mod OverLaws
 pub mod PathLaws
 pub mod PlaceLaws

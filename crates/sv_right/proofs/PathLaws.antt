@@ -23,7 +23,7 @@ use Rattle.sv_listing.specs.Listed.{atoms_from, has_never, is_wide_path}
 
 -- ---- cut lists
 
-all_cut : (P : Atom → Type 0) (list : List Atom) → All P list → All P (to_never list)
+pub all_cut : (P : Atom → Type 0) (list : List Atom) → All P list → All P (to_never list)
 all_cut P [] all = all
 all_cut P (a ∷ list) all = by (stops a) (all_cut P list (All-tail P a list all))
   where

@@ -1,8 +1,9 @@
 //! What the definitions promise, as calls that do nothing: their contracts are the laws.
 
+ghost use Rattle.sv_right.specs.Covering.{FrugalCovers};
 ghost use Rattle.sv_right.specs.Laws.{FrugalDecides};
 
-use sv_symbolic::shapes_tell;
+use sv_symbolic::{routes_are_paths, shapes_tell, symbols_are_typed};
 use sv_trace::{changes_have_entries, runs_are_shaped};
 
 /// Of every run of an accepted application on rows of its tables, where the integers that are written are of 64 bits, a
@@ -14,4 +15,13 @@ pub fn frugal_decides()
     runs_are_shaped();
     changes_have_entries();
     shapes_tell();
+}
+
+/// A frugal dictionary of an accepted application covers it: for each path of a unit that doesn't abort it has a
+/// template with the path's symbols, whose tests are over them: integers in forms, and texts in lists.
+pub fn frugal_covers()
+    ensures { FrugalCovers }
+{
+    routes_are_paths();
+    symbols_are_typed();
 }

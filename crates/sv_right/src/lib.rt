@@ -3,4 +3,4 @@
 
 mod laws;
 
-pub use laws::frugal_decides;
+pub use laws::{frugal_covers, frugal_decides};
