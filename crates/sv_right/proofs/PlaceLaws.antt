@@ -141,10 +141,11 @@ are_on schema tape told (e ∷ effects) [] accepted right same fit words = absur
 are_on schema tape told (e ∷ effects) (c ∷ changes) accepted right same fit words =
     let one : change_on tape e ≡ change_of c = cc in
     let more : map (change_on tape) effects ≡ map change_of changes = cc in
-    let stands : StandsFor tape e c = stands_for tape e c one in
-    (record {
-      stands = stands;
-      short = short_writes c.writes (All-head (λ (e : Effect). AreWordWrites e.writes) c changes words);
-      decides = λ place. atoms_decide schema c tape e told place accepted (All-head (EffectFits schema) c changes fit) right stands;
-    },
-    are_on schema tape told effects changes accepted right more (All-tail (EffectFits schema) c changes fit) (All-tail (λ (e : Effect). AreWordWrites e.writes) c changes words))
+    let stands : StandsFor tape e c = stands_for tape e c one in (
+      record {
+        stands = stands;
+        short = short_writes c.writes (All-head (λ (e : Effect). AreWordWrites e.writes) c changes words);
+        decides = λ place. atoms_decide schema c tape e told place accepted (All-head (EffectFits schema) c changes fit) right stands;
+      },
+      are_on schema tape told effects changes accepted right more (All-tail (EffectFits schema) c changes fit) (All-tail (λ (e : Effect). AreWordWrites e.writes) c changes words),
+    )
