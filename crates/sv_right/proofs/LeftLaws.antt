@@ -1,6 +1,7 @@
 -- What a template leaves to a run decides of the whole list of its path's atoms: whether all are met on the tape, and which is the first that isn't.
 use Rattle.std.proofs.Common.{◌≡◌, ◌∙◌, ◌⊎◌, inl, inr, ℕ, zero, suc, ◌<◌, ◌≤◌, true, List, [], ◌∷◌, ◌++◌, map, Option, Some, None, slice_get, refl, sym, subst, ap, arith, All}
 use Rattle.std.specs.Option.{option_map}
+use Rattle.std.proofs.lemmas.List.{map-append}
 use Rattle.std.proofs.lemmas.List.Elements.{All-nil, All-cons, All-head, All-tail}
 use Rattle.std.proofs.lemmas.Option.{slice_get-map}
 use Rattle.sv_value.specs.declared.values.Val.{Val}
@@ -24,7 +25,7 @@ use Rattle.sv_wp.specs.Decides.{AllMet}
 use Rattle.sv_wp.specs.Gives.{IsMetOn}
 use Rattle.sv_wp.proofs.GroupLaws.{met_or}
 use Rattle.sv_wp.proofs.ReadLaws.{Exact}
-use Rattle.sv_right.proofs.PathLaws.{Rising}
+use Rattle.sv_right.proofs.PathLaws.{never_met, Rising}
 
 -- ---- the atoms that are kept, and then the one that nothing meets
 
@@ -96,17 +97,13 @@ module _ (P : Atom → Type 0) where
 
 -- ---- as the dictionary has them
 
-map_both : {A B : Type 0} (f : A → B) (xs ys : List A) → map f (xs ++ ys) ≡ map f xs ++ map f ys
-map_both f [] ys = refl
-map_both f (x ∷ xs) ys = ap (λ zs. f x ∷ zs) (map_both f xs ys)
-
 lasts : (never : Option Coded) → map atom_of (last_of never) ≡ ends_with (option_map atom_of never)
 lasts None = refl
 lasts (Some a) = refl
 
 asked_are : (t : Template) → map atom_of (asked t) ≡ left_to (left_of t.left)
 asked_are t =
-    map_both atom_of (map (λ k. k.atom) t.left.kept) (last_of t.left.never)
+    map-append atom_of (map (λ k. k.atom) t.left.kept) (last_of t.left.never)
     ∙ (λ i. (map_map (λ (k : source.KeptAtom). k.atom) atom_of t.left.kept ∙ sym (map_map kept_of (λ (k : KeptAtom). k.atom) t.left.kept)) i ++ lasts t.left.never i)
 
 each_at : {A : Type 0} (P : A → Type 0) (xs : List A) → ((m : ℕ) (x : A) → slice_get xs m ≡ Some x → P x) → All P xs
@@ -136,14 +133,6 @@ module _ (schema : List Declaration) (tape : List Val) (t : Template) where
     dropped : All (λ d. Met d.atom) (left_of t.left).dropped
     dropped = λ k d less. most_met _ (dropped_hold t.facts t.symbols list (left_of t.left) tape is.left is.facts k d less)
 
-    never_met : (a : Atom) → is_never a.test ≡ true → Met a → ⊥
-    never_met a e met = by a.test e met
-      where
-        by : (test : Test) → is_never test ≡ true → IsMetOn schema tape test → ⊥
-        by (AtMost f most) e met = cc
-        by (InList symbol number) e met = cc
-        by Never e met = met
-
     code_at : (m : ℕ) (b : Atom) → slice_get (left_to (left_of t.left)) m ≡ Some b → IsSomeBy atom_of (slice_get (asked t) m) b
     code_at m b at = map_some atom_of (slice_get (asked t) m) b (sym (slice_get-map atom_of (asked t) m) ∙ ap (λ l. slice_get l m) (asked_are t) ∙ at)
 
@@ -161,7 +150,7 @@ module _ (schema : List Declaration) (tape : List Val) (t : Template) where
             (subst (λ (a : Atom). TestHolds schema tape a.test) code.gives holds))))
 
     pub all_met : ((m : ℕ) (x : Coded) → slice_get (asked t) m ≡ Some x → Fails x → ⊥) → AllMet schema tape list
-    all_met none = met_again Met _ 0 list (left_of t.left) never_met is.left dropped
+    all_met none = met_again Met _ 0 list (left_of t.left) (λ a e. never_met schema tape a.test e) is.left dropped
         (each_at Met (left_to (left_of t.left)) (λ m b at. met_unless m b at (λ x at_x same fails. none m x at_x fails)))
 
     -- the first that fails

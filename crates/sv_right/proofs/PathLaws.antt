@@ -16,7 +16,7 @@ use Rattle.sv_wp.specs.Decides.{AllMet, Decide}
 use Rattle.sv_wp.specs.Gives.{StandsFor, IsMetOn}
 use Rattle.sv_wp.specs.Reads.{IsShortWrite}
 use Rattle.sv_wp.proofs.GroupLaws.{mapped, of_groups}
-use Rattle.sv_wp.proofs.NarrowLaws.{narrow_exact}
+use Rattle.sv_wp.proofs.NarrowLaws.{neither, unless, narrow_exact}
 use Rattle.sv_wp.proofs.OnceLaws.{stops, cut_front, cut_back, groups_stop}
 use Rattle.sv_wp.proofs.ReadLaws.{Exact}
 use Rattle.sv_listing.specs.Listed.{atoms_from, has_never, is_wide_path}
@@ -46,6 +46,11 @@ any_cut (a ∷ list) = by (stops a) refl (any_cut list)
     by : (b : Bool) → stops a ≡ b → list_any stops (to_never list) ≡ list_any stops list → list_any stops (if b then a ∷ [] else a ∷ to_never list) ≡ (stops a || list_any stops list)
     by true is later = ap (λ b. b || false) is ∙ ap (λ b. b || list_any stops list) (sym is)
     by false is later = ap (λ b. stops a || b) later
+
+pub never_met : (schema : List Declaration) (tape : List Val) (t : Test) → is_never t ≡ true → IsMetOn schema tape t → ⊥
+never_met schema tape Never e h = h
+never_met schema tape (AtMost f m) e h = absurd cc
+never_met schema tape (InList symbol number) e h = absurd cc
 
 -- up to and with the first that nothing meets, of a list in front of another
 data Front (xs ys : List Atom) : Type 0 where
@@ -155,14 +160,6 @@ module _ (schema : List Declaration) (tape : List Val) (told : Gain) where
           subst (RisesFrom place) (sym whole) (level place (atoms told schema e place) (up_to (suc place) effects) (placed e place)
           (record { rising = later.rising; from = λ k d less. omega (arith, later.from k d less) }))
 
-  neither : (a b : Bool) → (a || b) ≡ false → (a ≡ false) × (b ≡ false)
-  neither true b e = absurd cc
-  neither false b e = (refl, e)
-
-  unless : (a b : Bool) → (not a && b) ≡ false → a ≡ false → b ≡ false
-  unless true b e h = absurd cc
-  unless false b e h = e
-
   abbrev Reads : Atom → Type 0
   Reads a = Exact schema tape a.test
 
@@ -192,17 +189,12 @@ module _ (schema : List Declaration) (tape : List Val) (told : Gain) where
   abbrev Met : Atom → Type 0
   Met a = IsMetOn schema tape a.test
 
-  never_met : (t : Test) → is_never t ≡ true → IsMetOn schema tape t → ⊥
-  never_met Never e h = h
-  never_met (AtMost f m) e h = absurd cc
-  never_met (InList symbol number) e h = absurd cc
-
   some_never : (list : List Atom) → list_any stops list ≡ true → AllMet schema tape list → ⊥
   some_never [] any met = absurd cc
   some_never (a ∷ list) any met = by (stops a) refl any (λ later. some_never list later (All-tail Met a list met))
     where
       by : (b : Bool) → stops a ≡ b → (b || list_any stops list) ≡ true → (list_any stops list ≡ true → ⊥) → ⊥
-      by true is any ih = never_met a.test is (All-head Met a list met)
+      by true is any ih = never_met schema tape a.test is (All-head Met a list met)
       by false is any ih = ih any
 
   pub safe : (place : ℕ) (effects : List SymEffect) (changes : List Effect) → AreOn effects changes → AllMet schema tape (up_to place effects) → All IsSafe changes

@@ -20,6 +20,20 @@ use Rattle.sv_wp.proofs.KeptLaws.{KeepsAsked, kept_asked}
 use Rattle.sv_wp.proofs.OnceLaws.{stops, held_never, none_more, asked_stops, wide_append}
 use Rattle.sv_wp.proofs.ReadLaws.{word_within, Exact, exact_tests}
 
+-- ---- truth values
+
+pub neither : (a b : Bool) → (a || b) ≡ false → (a ≡ false) × (b ≡ false)
+neither true b e = absurd cc
+neither false b e = (refl, e)
+
+pub unless : (a b : Bool) → (not a && b) ≡ false → a ≡ false → b ≡ false
+unless true b e h = absurd cc
+unless false b e h = e
+
+either : (a b : Bool) → a ≡ false → b ≡ false → (a || b) ≡ false
+either true b p q = absurd cc
+either false b p q = q
+
 -- ---- what holds up to and with the first that nothing meets
 
 module _ (P : Test → Type 0) where
@@ -34,18 +48,6 @@ module _ (P : Test → Type 0) where
   -- all that is asked in forms that are narrow
   abbrev Narrow : Asked → Type 0
   Narrow q = is_wide q ≡ false → All P (asked_tests q)
-
-  neither : (a b : Bool) → (a || b) ≡ false → (a ≡ false) × (b ≡ false)
-  neither true b e = absurd cc
-  neither false b e = (refl, e)
-
-  unless : (a b : Bool) → (not a && b) ≡ false → a ≡ false → b ≡ false
-  unless true b e h = absurd cc
-  unless false b e h = e
-
-  either : (a b : Bool) → a ≡ false → b ≡ false → (a || b) ≡ false
-  either true b p q = absurd cc
-  either false b p q = q
 
   tests_both : (xs ys : List Test) → All P xs → (list_any is_never xs ≡ false → UpTo ys) → UpTo (xs ++ ys)
   tests_both [] ys p q = q refl

@@ -3,7 +3,7 @@ use Rattle.sv_right.proofs.DecideLaws.{decides_for}
 use Rattle.sv_right.proofs.laws.frugal_decides.Goals as goal
 
 pub returns : goal.returns
-returns c = λ schema txns groups accepted frugal covers request txn first t declared fits rows words. decides_for schema txns groups frugal request.txn txn (run schema txns request first t) (record {
+returns c = λ schema txns groups accepted frugal request txn first t declared fits rows words. decides_for schema txns groups frugal request.txn txn (run schema txns request first t) (record {
   accepted = accepted.tables;
   declared = declared;
   shaped = c.runs_are_shaped.ensures schema txns request txn first t accepted declared fits rows;
