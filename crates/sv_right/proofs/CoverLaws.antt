@@ -16,8 +16,6 @@ use Rattle.sv_bounds.specs.declared.systems.Diff.{Diff}
 use Rattle.sv_label.specs.declared.templates.Template.{Template}
 use Rattle.sv_label.specs.Covers.{IsTestOver, last_of, IsTemplateOver, HasTemplate, Covers}
 use Rattle.sv_label.specs.Groups.{Group}
-use Rattle.sv_linear.specs.declared.left.Dropped.{Dropped as CodedDropped}
-use Rattle.sv_linear.specs.declared.left.KeptAtom.{KeptAtom as CodedKept}
 use Rattle.sv_linear.specs.declared.tests.Atom.{Atom as Coded}
 use Rattle.sv_linear.specs.Atoms.{Gain, atoms}
 use Rattle.sv_linear.specs.Codes.{test_of, atom_of, kept_of, dropped_of, left_of}

@@ -3,6 +3,7 @@ use Rattle.std.proofs.Common.{◌≡◌, ◌+◌, ℕ, suc, Bool, true, false, L
 use Rattle.std.specs.Prelude.{◌==◌, ◌&&◌, ◌-ℤ◌, nat_lt, int_le, if◌then◌else◌, bytes_eq}
 use Rattle.std.specs.List.{Contains, list_any, flat_map}
 use Rattle.std.specs.Ordering.{int_eq}
+use Rattle.std.proofs.lemmas.Bool.{and_from}
 use Rattle.std.proofs.lemmas.List.Elements.{All-nil, All-cons, All-head, All-tail, All-append, All-weaker}
 use Rattle.sv_app.specs.declared.schemas.Ty.{Ty}
 use Rattle.sv_app.specs.declared.schemas.Ty.TheVariants as types
@@ -158,18 +159,13 @@ module _ (schema : List Declaration) where
   is_named : (number : ℕ) (rule : Rule) → HasRule number rule → is_list rule ≡ true → names_list schema number ≡ true
   is_named number rule has lists =
       let stands : Stands has.declaration.invs has.inv = contained has.declaration.invs has.inv has.among in
-      any_at (λ (d : Declaration). list_any own d.invs) schema has.table has.declaration has.declared (any_at own has.declaration.invs stands.number has.inv stands.at (both (has.inv.number == number) (is_list has.inv.rule) same (ap is_list has.rule_is ∙ lists)))
+      any_at (λ (d : Declaration). list_any own d.invs) schema has.table has.declaration has.declared (any_at own has.declaration.invs stands.number has.inv stands.at (and_from (has.inv.number == number) (is_list has.inv.rule) same (ap is_list has.rule_is ∙ lists)))
     where
       own : Invariant → Bool
       own inv = inv.number == number && is_list inv.rule
 
       same : (has.inv.number == number) ≡ true
       same = grind (arith, has.number_is)
-
-      both : (a b : Bool) → a ≡ true → b ≡ true → (a && b) ≡ true
-      both true true p q = refl
-      both true false p q = absurd cc
-      both false b p q = absurd cc
 
   module _ (told : Gain) (e : SymEffect) where
     ok_check : (table : ℕ) (rule : Rule) → Ok (by_check told e table rule)

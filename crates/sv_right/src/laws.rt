@@ -2,6 +2,7 @@
 
 ghost use Rattle.sv_right.specs.Covering.{FrugalCovers};
 ghost use Rattle.sv_right.specs.Laws.{FrugalDecides};
+ghost use Rattle.sv_right.specs.Once.{DecidedOnce, FirstThreatOnce};
 
 use sv_symbolic::{routes_are_paths, shapes_tell, symbols_are_typed};
 use sv_trace::{changes_have_entries, runs_are_shaped};
@@ -25,3 +26,13 @@ pub fn frugal_covers()
     routes_are_paths();
     symbols_are_typed();
 }
+
+/// What a dictionary decides for a trace is one label.
+pub fn decided_once()
+    ensures { DecidedOnce }
+{}
+
+/// Of changes there is one first threat, or none.
+pub fn first_threat_once()
+    ensures { FirstThreatOnce }
+{}
