@@ -1,5 +1,6 @@
 //! What the definitions promise, as calls that do nothing: their contracts are the laws.
 
+ghost use Rattle.sv_listing.specs.Laws.{FrugalIsRight};
 ghost use Rattle.sv_right.specs.Covering.{FrugalCovers};
 ghost use Rattle.sv_right.specs.Laws.{FrugalDecides};
 ghost use Rattle.sv_right.specs.Once.{DecidedOnce, FirstThreatOnce};
@@ -25,6 +26,14 @@ pub fn frugal_covers()
 {
     routes_are_paths();
     symbols_are_typed();
+}
+
+/// A frugal dictionary of an accepted application is right: it covers it, and of every run decides the first threat.
+pub fn frugal_is_right()
+    ensures { FrugalIsRight }
+{
+    frugal_covers();
+    frugal_decides();
 }
 
 /// What a dictionary decides for a trace is one label.

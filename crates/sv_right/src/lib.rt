@@ -3,4 +3,4 @@
 
 mod laws;
 
-pub use laws::{decided_once, first_threat_once, frugal_covers, frugal_decides};
+pub use laws::{decided_once, first_threat_once, frugal_covers, frugal_decides, frugal_is_right};
