@@ -18,7 +18,6 @@ mod plain_labels;
 mod plain_needs;
 mod plain_rows;
 mod plain_states;
-mod plain_threats;
 mod plain_values;
 mod plain_verdicts;
 mod texts;

@@ -1,8 +1,8 @@
 //! The label of a run's changes, with plain loops: each instance, each of its changes, each reason.
-use crate::plain_threats::is_threatened;
 use std::alloc::Global;
 use sv_app::{App, Reason};
 use sv_effect::RowEffect;
+use sv_plain_threats::is_threatened;
 use sv_threat::Label;
 use sv_value::NoMemory;
 

@@ -14,7 +14,7 @@ fn integer(number: Option<i64>) -> Result<Val, Halted> {
 }
 
 /// The number in a value.
-pub fn number_in(val: &Val) -> i64 {
+fn number_in(val: &Val) -> i64 {
     match val {
         Val::Int(number) => *number,
         Val::Text(_) => 0,
