@@ -5,10 +5,10 @@ use sv_linear::{Form, FormStop, add, number, scale, sub, symbol, value};
 use sv_value::{Text, Val};
 
 /// Symbols with their coefficients.
-type Terms = &'static [(u8, i64)];
+pub type Terms = &'static [(u8, i64)];
 
 /// The form of these terms and this constant.
-fn form(alloc: Global, terms: &[(u8, i64)], plus: i64) -> Result<Form, FormStop> {
+pub fn form(alloc: Global, terms: &[(u8, i64)], plus: i64) -> Result<Form, FormStop> {
     let mut sum = number(alloc, plus);
     for (k, by) in terms {
         if *k == 0 {
