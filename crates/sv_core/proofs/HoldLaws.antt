@@ -29,7 +29,7 @@ use Rattle.sv_core.proofs.CutLaws.{order}
 use Rattle.sv_core.proofs.HistoryLaws.{back_to_now, cut_since, within}
 use Rattle.sv_core.proofs.KeepLaws.{no_index}
 use Rattle.sv_core.proofs.ListLaws.{get_some}
-use Rattle.sv_core.proofs.Promises.{places_valid}
+use Rattle.sv_core.proofs.Promises.{places_stand, places_valid}
 
 -- the site has all that the session has seen, where nothing of it is missing
 pub current_of : (m : MediumView) (s : SiteState) (p : Prepared) (next : ℕ) (pending : Option ℕ) (seen : CodeCut) (missing : Option Packet) → Stands (doc_of m) m.history s → p.site ≡ s.site
@@ -70,7 +70,7 @@ held_now m s p at deps was is can un now deps_are short = record {
   quiet = subst (λ n. All (λ e. is_of p.session e ≡ false) (take n m.history)) (sym gone) (λ k d lt. absurd (omega (arith, lt)));
   seen = subst (λ g. Covers (cut_of g p.site) (seen_of g p.session)) (sym back) un.current.covers;
   right = subst (λ g. IsRight (doc_of m) p (bare (tables_of (doc_of m).schema (doc_of m).init (published (doc_of m) m.history) (cut_of g p.site)))) (sym back)
-      (can.made.right (bare (tables_at (doc_of m) m.history p.site)) (places_valid (doc_of m) m.history 0 p.site was.lawful) un.agrees);
+      (can.made.right (bare (tables_at (doc_of m) m.history p.site)) (places_valid (doc_of m) m.history 0 p.site was.lawful) (places_stand (doc_of m) m.history 0 p.site was.lawful) un.agrees);
   deps = deps_are ∙ (λ i. as_deps (λ o. was.cut o i)) ∙ ap (λ site. as_deps (cut_of m.history site)) (sym is) ∙ ap (λ g. as_deps (cut_of g p.site)) (sym back);
   short = short;
 }

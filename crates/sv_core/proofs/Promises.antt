@@ -9,12 +9,12 @@ use Rattle.sv_effect.proofs.Promises as effects
 use Rattle.sv_safety.proofs.Promises as safety
 use Rattle.sv_core.specs.declared.entries.Entry.{Entry}
 use Rattle.sv_core.specs.Document.{Document}
-use Rattle.sv_core.specs.History.{History, cut_of, published}
+use Rattle.sv_core.specs.History.{History, cut_of, published, tables_at}
 use Rattle.sv_core.specs.Laws as law
 use Rattle.sv_core.specs.Laws.{IsLawful, IsCut, Merges, EachIsNext, cut_tables}
 use Rattle.sv_core.specs.Legal.{Legal, IsNext}
 use Rattle.sv_core.proofs.BirthLaws.{lawful_since, past_lies, past_closed}
-use Rattle.sv_core.proofs.FactLaws.{Facts, all_facts, merges_of, step_tables, needs, lacked, blues, lift}
+use Rattle.sv_core.proofs.FactLaws.{Facts, all_facts, merges_of, stand, step_tables, needs, lacked, blues, lift}
 use Rattle.sv_core.proofs.HistoryLaws.{legal_since, tables_since, within}
 use Rattle.sv_core.proofs.WalkLaws.{Step, walk}
 
@@ -90,3 +90,9 @@ pub places_valid : law.PlacesValid
 places_valid doc h n s lawful =
     let old : IsLawful doc (drop n h) = lawful_since doc n h lawful in
     cuts_valid doc (drop n h) (cut_of (drop n h) s) old (cuts_closed doc (drop n h) 0 s old)
+
+pub places_stand : law.PlacesStand
+places_stand doc h n s lawful =
+    let old : IsLawful doc (drop n h) = lawful_since doc n h lawful in
+    (safety.standing_fits doc.schema (tables_at doc (drop n h) s) old.sound.accepted.tables
+    (stand doc (drop n h) old (all_facts doc (drop n h) old) (cut_of (drop n h) s) (cuts_closed doc (drop n h) 0 s old))).rows

@@ -34,7 +34,7 @@ prepared_is_safe doc p t op accepted made valid rows agrees blue of =
     (record { changes = ap (map effect_of) of.effects ∙ r.effects ∙ w.changes; needs = of.needs ∙ w.needed; time = of.time }) w.free
   where
     r : IsRight doc p t
-    r = made.right t valid agrees
+    r = made.right t valid rows agrees
 
     w : IsWhole doc.schema (run_of doc p.session p.index p.request t) (made_by p.reply (run_of doc p.session p.index p.request t).effects) p.needs
     w = whole doc.schema (run_of doc p.session p.index p.request t) p.reply p.needs r.needs (subst (IsLabel doc.schema (made_by p.reply (run_of doc p.session p.index p.request t).effects)) blue r.judged.labelled)

@@ -19,6 +19,7 @@ use Rattle.sv_effect.specs.Sequences.{Placed, IsSequence, applied_all}
 use Rattle.sv_effect.specs.StampedTables.{StampedTables}
 use Rattle.sv_effect.specs.TablesOfCut.{tables_held, tables_of}
 use Rattle.sv_effect.specs.Run.{RunResult}
+use Rattle.sv_trace.specs.Laws.{RowsAreOf}
 use Rattle.sv_safety.specs.Laws.{IsBlue}
 use Rattle.sv_threat.specs.declared.label.Label.{Label}
 use Rattle.sv_core.specs.declared.entries.Entry.{Entry}
@@ -130,3 +131,7 @@ CutsValid = (doc : Document) (h : History) (cut : Cut) → IsLawful doc h → Is
 -- and so are those of every site at every place
 abbrev pub PlacesValid : Type 0
 PlacesValid = (doc : Document) (h : History) (n s : ℕ) → IsLawful doc h → Valid doc.schema (bare (tables_at doc (drop n h) s))
+
+-- their rows are of the document's tables
+abbrev pub PlacesStand : Type 0
+PlacesStand = (doc : Document) (h : History) (n s : ℕ) → IsLawful doc h → RowsAreOf doc.schema (bare (tables_at doc (drop n h) s))

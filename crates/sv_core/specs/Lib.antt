@@ -5,6 +5,7 @@ pub mod Document
 pub mod Events
 pub mod History
 pub mod Judged
+pub mod Labelled
 pub mod Laws
 pub mod Legal
 pub mod Made

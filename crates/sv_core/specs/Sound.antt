@@ -11,9 +11,12 @@ use Rattle.sv_effect.specs.Cut.{empty}
 use Rattle.sv_effect.specs.Initial.{InitFits, AreDistinct}
 use Rattle.sv_effect.specs.StampedTables.{StampedTables}
 use Rattle.sv_effect.specs.TablesOfCut.{tables_held}
+use Rattle.sv_listing.specs.Frugal.{Frugal}
+use Rattle.sv_listing.specs.Right.{Right}
+use Rattle.sv_core.specs.declared.docs.Doc.{Doc}
 use Rattle.sv_core.specs.declared.docs.Item.{Item}
 use Rattle.sv_core.specs.declared.docs.Item.TheVariants.{Call, Go}
-use Rattle.sv_core.specs.Document.{Document}
+use Rattle.sv_core.specs.Document.{Document, document_of}
 
 -- a call of a transaction of the document, with arguments of its parameters' types
 pub record RequestFits (doc : Document) (request : Request) : Type 0 where
@@ -62,3 +65,9 @@ pub record Sound (doc : Document) : Type 0 where
   pub gos : doc.sessions ≢ [] → doc.moves ≡ total gos_in doc.sessions
   pub asks : doc.asks ≤ most_requests
   pub moves : doc.moves ≤ most_steps
+
+-- what a world is made for is sound if the document is, and the dictionary is frugal and right for it
+pub record SoundDoc (doc : Doc) : Type 0 where
+  pub document : Sound (document_of doc)
+  pub frugal : Frugal (document_of doc).schema (document_of doc).txns doc.dict
+  pub right : Right (document_of doc).schema (document_of doc).txns doc.dict

@@ -14,6 +14,7 @@ ghost use Rattle.sv_core.specs.Laws.{
   LegalByPlaces,
   NeedsHold,
   OneMore,
+  PlacesStand,
   PlacesValid,
   PublishedMerges,
   TablesStand,
@@ -102,6 +103,11 @@ pub fn cuts_valid()
 /// The tables of every site at every place are valid.
 pub fn places_valid()
     ensures { PlacesValid }
+{}
+
+/// The rows of every site at every place are of the document's tables.
+pub fn places_stand()
+    ensures { PlacesStand }
 {}
 
 /// Further entries of other sites, and moves of sessions, change nothing at a site: its entries, its packets, what it has,

@@ -26,7 +26,7 @@ pub use entries::{Entry, Reply, Which};
 pub use laws::{
     any_sequence, blues_are_safe, blues_lead, commit_once, cuts_closed, cuts_valid, delivery_once,
     equal_cuts, go_once, grown_stay, judged_once, kept_stay, lacked_unmade, legal_by_places,
-    needs_hold, one_more, order_once, others_leave, places_valid, prepared_is_safe,
+    needs_hold, one_more, order_once, others_leave, places_stand, places_valid, prepared_is_safe,
     published_merges, settle_once, tables_stand,
 };
 pub use media::Medium;
@@ -34,5 +34,5 @@ pub use prepared::{Prepared, prepare};
 pub use rows::SiteRows;
 pub use sheets::Sheet;
 pub use sites::SiteState;
-pub use sv_threat::{Label, label_now};
+pub use sv_threat::Label;
 pub use world::World;

@@ -1,5 +1,8 @@
-ghost use Rattle.std.specs.Prelude.{All};
+ghost use Rattle.std.specs.Prelude.{All, map};
+ghost use Rattle.sv_effect.specs.Room.{IsWordWrite, AreWordWrites};
+ghost use Rattle.sv_effect.specs.RunChanges.{effect_of};
 ghost use Rattle.sv_effect.specs.TablesOfCut.{delta_of, number_in};
+ghost use Rattle.sv_listing.specs.Right.{AreWords};
 ghost use Rattle.sv_core.specs.Counts.{AddsShort, HasShortValues, IsShort};
 
 use sv_app::InitRow;
@@ -59,5 +62,44 @@ fn tell_short_write(write: &Write)
             let _number = *number;
         }
         Write::Set(_) => {}
+    }
+}
+
+/// Reads the integers that changes write, which have 64 bits.
+pub(crate) fn tell_words(effects: &[RowEffect])
+    ensures { AreWords (map effect_of effects.now) }
+{
+    match effects {
+        [] => {}
+        [effect, rest @ ..] => {
+            tell_word_writes(effect.writes.as_slice());
+            tell_words(rest);
+        }
+    }
+}
+
+fn tell_word_writes(writes: &[(u16, Write)])
+    ensures { AreWordWrites writes.now }
+{
+    match writes {
+        [] => {}
+        [(_, write), rest @ ..] => {
+            tell_word_write(write);
+            tell_word_writes(rest);
+        }
+    }
+}
+
+fn tell_word_write(write: &Write)
+    ensures { IsWordWrite write.now }
+{
+    match write {
+        Write::Delta(number) => {
+            let _number = *number;
+        }
+        Write::Set(Val::Int(number)) => {
+            let _number = *number;
+        }
+        Write::Set(Val::Text(_)) => {}
     }
 }

@@ -65,13 +65,13 @@ impl World {
     ghost use Rattle.sv_core.specs.MediumState.{CanCommit};
     ghost use Rattle.sv_core.specs.Packets.{finished};
     ghost use Rattle.sv_core.specs.Sheets.{IsFetch, is_known};
-    ghost use Rattle.sv_core.specs.Sound.{Sound, IsSite};
+    ghost use Rattle.sv_core.specs.Sound.{SoundDoc, IsSite};
     ghost use Rattle.sv_core.specs.WorldState.{AreStates, inboxes_in};
     ghost use Rattle.sv_core.specs.declared.docs.Item.TheVariants.{Go};
 
-    /// The world of a sound document, to which nothing has happened. Takes all the space that its events will need.
+    /// The world of a sound document with its dictionary, to which nothing has happened. Takes all the space that its events will need.
     pub fn start(alloc: Global, doc: Arc<Doc>) -> Result<World, NoMemory>
-        requires { Sound (document_of doc.value) }
+        requires { SoundDoc doc.value }
         ensures { IfOk result (λ w. w ≡ record { medium = record { doc = doc.value; history = []; proposals = replicate 64 None }; inboxes = replicate doc.value.sites [] }) }
     {
         let sites = fresh_sites(alloc, &doc)?;

@@ -27,6 +27,7 @@ use Rattle.sv_core.specs.Clock.{latest_in}
 use Rattle.sv_core.specs.Document.{Document}
 use Rattle.sv_core.specs.History.{History, back_to, cut_of, news, op_of, published, run_then, tables_then}
 use Rattle.sv_core.specs.Judged.{IsJudged, IsReply, made_by}
+use Rattle.sv_trace.specs.Laws.{RowsAreOf}
 use Rattle.sv_core.specs.Laws.{AreOne}
 use Rattle.sv_core.specs.Legal.{IsAnswer, IsAsked, IsDue, Shows}
 use Rattle.sv_core.specs.Made.{IsFor, IsRight, Made, NeedsOf}
@@ -39,16 +40,16 @@ use Rattle.sv_legal.specs.Findings.{IsPrepared, op_making}
 
 -- what was prepared on tables that are those of the place
 pub prepared_is : (doc : Document) (h : History) (session index : ℕ) (request : Request) (site at : ℕ) (p : Prepared) (t : Tables) → IsFor session site index request p → Made doc p
-    → t ≡ bare (tables_then doc (published doc h) h site at) → Valid doc.schema (bare (tables_then doc (published doc h) h site at)) → Agrees t (map read_of p.reads)
-    → IsPrepared doc h session index request site at p
-prepared_is doc h session index request site at p t for made is valid agrees = record {
+    → t ≡ bare (tables_then doc (published doc h) h site at) → Valid doc.schema (bare (tables_then doc (published doc h) h site at)) → RowsAreOf doc.schema (bare (tables_then doc (published doc h) h site at))
+    → Agrees t (map read_of p.reads) → IsPrepared doc h session index request site at p
+prepared_is doc h session index request site at p t for made is valid rows agrees = record {
   judged = subst (λ (x : Tables × RunResult). IsJudged doc.schema x.0 x.1 p.reply p.label) (λ i. (is i, runs i)) r.judged;
   effects = r.effects ∙ ap (λ (x : RunResult). made_by p.reply x.effects) runs;
   needs = subst (λ (x : RunResult). NeedsOf p.reply x.needs p.needs) runs r.needs;
 }
   where
     r : IsRight doc p t
-    r = made.right t (subst (Valid doc.schema) (sym is) valid) agrees
+    r = made.right t (subst (Valid doc.schema) (sym is) valid) (subst (RowsAreOf doc.schema) (sym is) rows) agrees
 
     runs : run_of doc p.session p.index p.request t ≡ run_then doc (published doc h) h session index request site at
     runs = λ i. run_of doc (for.same_session i) (for.same_index i) (for.same_request i) (is i)

@@ -21,6 +21,8 @@ use Rattle.sv_core.specs.Legal.{IsApply, IsNext}
 use Rattle.sv_core.specs.Room.{changes_in, inserts_in, changes_used}
 use Rattle.sv_core.specs.Sound.{IsSite, Sound}
 use Rattle.sv_core.specs.WorldLaws.{IsFew}
+use Rattle.sv_trace.specs.Laws.{RowsAreOf}
+use Rattle.sv_safety.proofs.Promises as safety
 use Rattle.sv_core.proofs.FactLaws.{all_facts, stand}
 use Rattle.sv_core.proofs.HistoryLaws.{within}
 use Rattle.sv_core.proofs.Promises.{cuts_closed, cuts_valid}
@@ -126,6 +128,10 @@ cut_then doc h site at lawful = cuts_closed doc h (length h - at) site lawful
 
 pub valid_then : (doc : Document) (h : History) (site at : ℕ) → IsLawful doc h → Valid doc.schema (bare (tables_then doc (published doc h) h site at))
 valid_then doc h site at lawful = cuts_valid doc h (cut_of (back_to at h) site) lawful (cut_then doc h site at lawful)
+
+pub rows_then : (doc : Document) (h : History) (site at : ℕ) → IsLawful doc h → RowsAreOf doc.schema (bare (tables_then doc (published doc h) h site at))
+rows_then doc h site at lawful = (safety.standing_fits doc.schema (tables_then doc (published doc h) h site at) lawful.sound.accepted.tables
+    (stand doc h lawful (all_facts doc h lawful) (cut_of (back_to at h) site) (cut_then doc h site at lawful))).rows
 
 pub stand_then : (doc : Document) (h : History) (lists : List (List Op)) (init : List InitRow) (site at : ℕ) (cut : Cut) → Told doc h lists → init ≡ doc.init
     → ((o : ℕ) → cut o ≡ cut_of (back_to at h) site o) → TablesStand doc.schema (tables_of doc.schema init (medium_of lists) cut)

@@ -46,13 +46,14 @@ impl Before<'_> {
     ghost use Rattle.sv_core.specs.Room.{lack_of};
     ghost use Rattle.sv_core.specs.declared.entries.Entry.TheVariants as entries;
     ghost use Rattle.sv_value.specs.declared.packets.Packet.TheVariants as packets;
-    ghost use Rattle.sv_legal.specs.Before.{doc_of, past_of, IsTold};
+    ghost use Rattle.sv_legal.specs.Before.{doc_of, past_of, IsRuled, IsTold};
     ghost use Rattle.sv_legal.specs.Findings.{IsFinding, IsPrepared, op_making};
 
     /// What the request is answered on the site's tables at its place: each row of them is computed anew, by the query,
     /// from all operations that the site had.
     fn prepared(&self, alloc: Global, asked: &Asked<'_>) -> Result<Prepared, NoMemory>
         requires told { IsTold self.now }
+        requires ruled { IsRuled self.now }
         requires asked { IsAsked (doc_of self.now) (past_of self.now) asked.now.session asked.now.index asked.now.request.now asked.now.site asked.now.at }
         ensures { IfOk result (IsPrepared (doc_of self.now) (past_of self.now) asked.now.session asked.now.index asked.now.request.now asked.now.site asked.now.at) }
     {
@@ -185,6 +186,7 @@ impl Before<'_> {
         shown: &Shown<'_>,
     ) -> Result<Finding, NoMemory>
         requires told { IsTold self.now }
+        requires ruled { IsRuled self.now }
         requires asked { IsAsked (doc_of self.now) (past_of self.now) asked.now.session asked.now.index asked.now.request.now asked.now.site asked.now.at }
         requires place { asked.now.at ≤ length self.now.history.now }
         ensures { IfOk result (IsFinding (doc_of self.now) (past_of self.now) (entries.Answer asked.now.session asked.now.index asked.now.request.now asked.now.site asked.now.at shown.now.reply.now shown.now.label.now shown.now.packet.now)) }
@@ -203,7 +205,8 @@ impl Before<'_> {
         asked: &Asked<'_>,
         shown: &Shown<'_>,
     ) -> Result<Finding, NoMemory>
-        requires { IsTold self.now }
+        requires told { IsTold self.now }
+        requires ruled { IsRuled self.now }
         ensures { IfOk result (IsFinding (doc_of self.now) (past_of self.now) (entries.Answer asked.now.session asked.now.index asked.now.request.now asked.now.site asked.now.at shown.now.reply.now shown.now.label.now shown.now.packet.now)) }
     {
         if !self.is_asked(asked) {
@@ -214,7 +217,8 @@ impl Before<'_> {
 
     /// What is found of the entry, if it comes next.
     pub fn finding(&self, alloc: Global, entry: &Entry) -> Result<Finding, NoMemory>
-        requires { IsTold self.now }
+        requires told { IsTold self.now }
+        requires ruled { IsRuled self.now }
         ensures { IfOk result (IsFinding (doc_of self.now) (past_of self.now) entry.now) }
     {
         match entry {

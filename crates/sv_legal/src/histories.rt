@@ -3,7 +3,8 @@
 ghost use Rattle.std.specs.Prelude.{◌≡◌, ◌↔◌, ◌∷◌, map, length, reverse, IsTrue, IsSome, IfSome, IfOk};
 ghost use Rattle.sv_core.specs.Document.{document_of};
 ghost use Rattle.sv_core.specs.Legal.{IsNext, Legal};
-ghost use Rattle.sv_core.specs.Sound.{Sound};
+ghost use Rattle.sv_core.specs.Sound.{Sound, SoundDoc};
+ghost use Rattle.sv_listing.specs.Right.{Right};
 ghost use Rattle.sv_legal.specs.Told.{Told};
 
 use crate::answers::Finding;
@@ -22,7 +23,8 @@ fn step(
     entry: &Entry,
     lists: &mut Vec<Vec<Op>>,
 ) -> Result<bool, NoMemory>
-    requires { Told (document_of doc.now) (reverse history.now) (map (λ ops. ops.items) lists.old.items) }
+    requires told { Told (document_of doc.now) (reverse history.now) (map (λ ops. ops.items) lists.old.items) }
+    requires ruled { Right (document_of doc.now).schema (document_of doc.now).txns doc.now.dict }
     ensures next { IfOk result (λ yes. IsTrue yes ↔ IsNext (document_of doc.now) (reverse history.now) entry.now) }
     ensures told { IfOk result (λ yes. IsTrue yes → Told (document_of doc.now) (entry.now ∷ reverse history.now) (map (λ ops. ops.items) lists.new.items)) }
 {
@@ -44,7 +46,8 @@ fn step(
 /// What a legal history, oldest entry first, published: the list of the reds and then that of each site; `None` where it
 /// isn't legal.
 fn lists_of(alloc: Global, doc: &Doc, history: &[Entry]) -> Result<Option<Vec<Vec<Op>>>, NoMemory>
-    requires { Sound (document_of doc.now) }
+    requires sound { Sound (document_of doc.now) }
+    requires ruled { Right (document_of doc.now).schema (document_of doc.now).txns doc.now.dict }
     ensures legal { IfOk result (λ lists. IsSome lists ↔ Legal (document_of doc.now) (reverse history.now)) }
     ensures told { IfOk result (λ lists. IfSome lists (λ lists. Told (document_of doc.now) (reverse history.now) (map (λ ops. ops.items) lists.items))) }
 {
@@ -57,11 +60,11 @@ fn lists_of(alloc: Global, doc: &Doc, history: &[Entry]) -> Result<Option<Vec<Ve
     Ok(Some(lists))
 }
 
-/// Whether the history, oldest entry first, is a legal one of the sound document: each entry is judged on the tables that
+/// Whether the history, oldest entry first, is a legal one of the document, which is sound with its dictionary: each entry is judged on the tables that
 /// the entries before it give, each row of which is computed anew from all their operations. It is slow, and knows no
 /// world.
 pub fn is_legal(alloc: Global, doc: &Doc, history: &[Entry]) -> Result<bool, NoMemory>
-    requires { Sound (document_of doc.now) }
+    requires { SoundDoc doc.now }
     ensures { IfOk result (λ yes. IsTrue yes ↔ Legal (document_of doc.now) (reverse history.now)) }
 {
     let lists = lists_of(alloc, doc, history)?;

@@ -6,7 +6,9 @@ ghost use Rattle.sv_app.specs.Conditions.{AreNumbered, KeepsGrammar, KeepsLimits
 ghost use Rattle.sv_app.specs.Schema.{schema_of};
 ghost use Rattle.sv_app.specs.Trees.{transactions_of};
 ghost use Rattle.sv_core.specs.Document.{document_of};
-ghost use Rattle.sv_core.specs.Sound.{Sound};
+ghost use Rattle.sv_core.specs.Sound.{SoundDoc};
+ghost use Rattle.sv_listing.specs.Frugal.{Frugal};
+ghost use Rattle.sv_listing.specs.Right.{Right};
 ghost use Rattle.sv_report.specs.Steps.{StepsFit};
 ghost use Rattle.sv_workload.specs.LastRefused.{total};
 ghost use Rattle.sv_workload.specs.LineReading.{step_asks};
@@ -16,6 +18,8 @@ use std::alloc::Global;
 use std::test::Fail;
 use sv_app::{App, Table};
 use sv_core::Doc;
+use sv_dict::compile;
+use sv_label::Dictionary;
 use sv_lex::{Token, lex, spot_of};
 use sv_schema_reader::read_schema;
 use sv_txn_reader::read_txns;
@@ -111,10 +115,12 @@ fn application(alloc: Global, tokens: &[Token], end: Spot) -> Result<(App, usize
 
 /// The trial of an application and its parts.
 #[tactic(auto, using(crate::proofs::TrialLaws::reading))]
-fn trial_of(alloc: Global, app: App, parts: Parts) -> Result<Trial, Fail>
+fn trial_of(alloc: Global, app: App, dict: Dictionary, parts: Parts) -> Result<Trial, Fail>
     requires accepted { AcceptedApp (schema_of app.tables.items) (transactions_of app.txns.items) }
+    requires frugal { Frugal (schema_of app.tables.items) (transactions_of app.txns.items) dict }
+    requires right { Right (schema_of app.tables.items) (transactions_of app.txns.items) dict }
     requires fit { PartsFit (schema_of app.tables.items) (transactions_of app.txns.items) parts }
-    ensures sound { IfOk result (λ trial. Sound (document_of trial.doc)) }
+    ensures sound { IfOk result (λ trial. SoundDoc trial.doc) }
     ensures fit { IfOk result (λ trial. StepsFit (document_of trial.doc) trial.steps) }
 {
     let Parts {
@@ -131,6 +137,7 @@ fn trial_of(alloc: Global, app: App, parts: Parts) -> Result<Trial, Fail>
             Ok(Trial {
                 doc: Doc {
                     app,
+                    dict,
                     init,
                     sites,
                     rows,
@@ -149,7 +156,7 @@ fn trial_of(alloc: Global, app: App, parts: Parts) -> Result<Trial, Fail>
 /// The trial of a text.
 pub fn read_trial(alloc: Global, text: &[u8]) -> Result<Trial, Fail>
     requires { length text.now ≤ 1048576 }
-    ensures sound { IfOk result (λ trial. Sound (document_of trial.doc)) }
+    ensures sound { IfOk result (λ trial. SoundDoc trial.doc) }
     ensures fit { IfOk result (λ trial. StepsFit (document_of trial.doc) trial.steps) }
 {
     let Ok(tokens) = lex(alloc, text) else {
@@ -157,8 +164,11 @@ pub fn read_trial(alloc: Global, text: &[u8]) -> Result<Trial, Fail>
     };
     let end = spot_of(text, text.len() as u32);
     let (app, at) = application(alloc, &tokens, end)?;
+    let Ok(dict) = compile(alloc, &app) else {
+        return Err(Fail::from("an application that asks for too much"));
+    };
     match read_parts(alloc, &app, &tokens, end, at) {
-        Ok(parts) => trial_of(alloc, app, parts),
+        Ok(parts) => trial_of(alloc, app, dict, parts),
         Err(_) => Err(Fail::from("parts that aren't read")),
     }
 }

@@ -1,4 +1,8 @@
 //! The history of a world, and the same with each damage.
+
+ghost use Rattle.std.specs.Prelude.{IfOk};
+ghost use Rattle.sv_core.specs.Sound.{SoundDoc};
+
 use crate::damages::{Damage, history_with};
 use crate::documents::{Trial, read_trial};
 use std::alloc::Global;
@@ -32,8 +36,10 @@ ask 2 add(1, 1);
 ask 2 add(1, 1);
 ";
 
-/// The world of the text, behind its steps.
-fn world(alloc: Global) -> Result<World, Fail> {
+/// The world of the text, behind its steps. Its document is sound with its dictionary.
+fn world(alloc: Global) -> Result<World, Fail>
+    ensures { IfOk result (λ w. SoundDoc w.medium.doc) }
+{
     let Trial { doc, steps } = read_trial(alloc, TEXT)?;
     let mut world = World::start(alloc, Arc::new(alloc, doc)?)?;
     replay_steps(alloc, &mut Vec::new(alloc), &mut world, steps)?;

@@ -37,4 +37,4 @@ SameGroups (g ∷ gs) [] = ⊥
 SameGroups (g ∷ gs) (o ∷ os) = SameGroup g o × SameGroups gs os
 
 abbrev pub FrugalOnce : Type 0
-FrugalOnce = (schema : List Declaration) (txns : List Transaction) (groups others : List Group) → AcceptedApp schema txns → Frugal schema txns groups → Frugal schema txns others → SameGroups groups others
+FrugalOnce = (schema : List Declaration) (txns : List Transaction) (groups others : List Group) → Frugal schema txns groups → Frugal schema txns others → SameGroups groups others

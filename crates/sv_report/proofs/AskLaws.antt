@@ -22,7 +22,7 @@ use Rattle.sv_core.specs.Made.{IsFor, IsListedAt, Made}
 use Rattle.sv_core.specs.MediumState.{CanCommit, IsAwaited}
 use Rattle.sv_core.specs.Mediums.{MediumView, Proposal, WorldView, doc_of, proposal_of, with_entry, with_proposal}
 use Rattle.sv_core.specs.Runs.{run_of}
-use Rattle.sv_core.proofs.Promises.{places_valid}
+use Rattle.sv_core.proofs.Promises.{places_stand, places_valid}
 use Rattle.sv_core.proofs.ToldLaws.{unchanged}
 use Rattle.sv_report.specs.Lines.{pending_line, short_line, waiting_line}
 use Rattle.sv_report.specs.ReplayText.{IsAsk, Waits, Lacks, Proposes, Answers, IsAskedNow, IsJudgedHere, here, proposed}
@@ -54,6 +54,7 @@ is_ready m session site index request p lawful for made lives next agrees = reco
   next = for.same_index ∙ next ∙ ap (answered m.history) (sym for.same_session);
   agrees = subst (λ s. Agrees (bare (tables_at (doc_of m) m.history s)) (map read_of p.reads)) (sym for.same_site) agrees;
   valid = places_valid (doc_of m) m.history 0 p.site lawful;
+  stand = places_stand (doc_of m) m.history 0 p.site lawful;
 }
 
 pub can_commit : (m : MediumView) (p : Prepared) → IsReady m p → (doc_of m).sessions ≡ [] → IsAwaited m → CanCommit m p
@@ -95,7 +96,7 @@ judged_here m p ready =
     (run_of (doc_of m) p.session (answered m.history p.session) p.request (bare (tables_at (doc_of m) m.history s))) p.reply p.label) ready.lives
     (subst (λ n. IsJudged (doc_of m).schema (bare (tables_at (doc_of m) m.history p.site))
     (run_of (doc_of m) p.session n p.request (bare (tables_at (doc_of m) m.history p.site))) p.reply p.label) ready.next
-    (ready.made.right (bare (tables_at (doc_of m) m.history p.site)) ready.valid ready.agrees).judged)
+    (ready.made.right (bare (tables_at (doc_of m) m.history p.site)) ready.valid ready.stand ready.agrees).judged)
 
 asked_now : (m : MediumView) (p : Prepared) → IsReady m p → IsCurrent m p → IsAskedNow m p.session p.request p.reply p.label
 asked_now m p ready current = record {

@@ -1,11 +1,13 @@
 pub mod AppendLaws
 pub mod AskLaws
+pub mod CompileLaws
 pub mod CutLaws
 pub mod DocumentLaws
 pub mod GrowLaws
 pub mod LegalLaws
 pub mod OnceLaws
 pub mod OrderLaws
+pub mod PrintedLaws
 pub mod RowsOfLaws
 pub mod ShowLaws
 pub mod StepLaws

@@ -3,15 +3,17 @@ use Rattle.std.proofs.Common.{◌≡◌, ℕ, ◌<◌, List, [], ◌∷◌, ◌+
 use Rattle.std.proofs.lemmas.List.Elements.{All-head}
 use Rattle.sv_value.specs.declared.packets.Packet.{Packet}
 use Rattle.sv_app.specs.declared.requests.Request.{Request}
+use Rattle.sv_core.specs.declared.docs.Doc.{Doc}
 use Rattle.sv_core.specs.Document.{document_of}
 use Rattle.sv_core.specs.History.{moves}
 use Rattle.sv_core.specs.Legal.{IsSession}
 use Rattle.sv_core.specs.MediumState.{IsAwaited}
 use Rattle.sv_core.specs.Mediums.{WorldView, doc_of}
 use Rattle.sv_core.specs.Sound.{IsSite, RequestFits}
+use Rattle.sv_listing.specs.Right.{Right}
 use Rattle.sv_report.specs.ReplayText.{AreSteps, started}
-use Rattle.sv_report.specs.Steps.{CanMakeAll, Replayed, StandsBefore, Stepped, StepsFit}
-use Rattle.sv_report.proofs.GrowLaws.{all_can, first_can, others_can}
+use Rattle.sv_report.specs.Steps.{CanMakeAll, IsRuled, Replayed, StandsBefore, Stepped, StepsFit}
+use Rattle.sv_report.proofs.GrowLaws.{all_can, first_can, others_can, same_doc}
 use Rattle.sv_workload.specs.declared.parts.Step.{Step}
 use Rattle.sv_workload.specs.declared.parts.Step.TheVariants as steps
 use Rattle.sv_workload.specs.PartsFit.{IsRequestOf, StepFits}
@@ -65,11 +67,12 @@ move_awaited w session site can = let few = can.gos in omega (arith, few)
 pub ruleset fitting = (ask_who, ask_fits, ask_awaited, order_who, deliver_site, settle_site, catch_site, show_site, show_table, cut_site, move_who, move_site, move_awaited)
 
 -- before the first step
-pub begins : (before : List ℕ) (w : WorldView) (all : List Step) → w ≡ started w.medium.doc → StepsFit (document_of w.medium.doc) all → StandsBefore before w all before w all
-begins before w all just fit = record {
+pub begins : (before : List ℕ) (w : WorldView) (all : List Step) → w ≡ started w.medium.doc → StepsFit (document_of w.medium.doc) all → IsRuled w → StandsBefore before w all before w all
+begins before w all just fit ruled = record {
   text = [];
   grown = sym (append-nil before);
   can = subst (λ x. CanMakeAll x all) (sym just) (all_can w.medium.doc all fit);
+  ruled = ruled;
   leads = λ rest after are. are;
 }
 
@@ -83,6 +86,7 @@ goes_on before now later w next last all items left step are stands made = recor
   text = stands.text ++ made.line;
   grown = made.grown ∙ ap (λ l. l ++ made.line) stands.grown ∙ append_assoc before stands.text made.line;
   can = others_can next last step left made.line (subst (CanMakeAll next) are stands.can) made.is;
+  ruled = subst (λ (doc : Doc). Right (document_of doc).schema (document_of doc).txns doc.dict) (sym (same_doc next last step made.line made.is)) stands.ruled;
   leads = λ rest after steps. subst (λ l. AreSteps w all l after) (sym (append_assoc stands.text made.line rest))
       (stands.leads (made.line ++ rest) after (subst (λ l. AreSteps next l (made.line ++ rest) after) (sym are) (made.line, rest, last, made.is, steps, refl)));
 }

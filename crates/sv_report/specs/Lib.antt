@@ -1,3 +1,5 @@
+pub mod CompileText
+pub mod Counting
 pub mod Laws
 pub mod Lines
 pub mod ReplayText

@@ -4,6 +4,8 @@ use Rattle.sv_app.specs.Valid.{Valid}
 use Rattle.sv_effect.specs.Agrees.{Agrees}
 use Rattle.sv_effect.specs.BareTables.{bare}
 use Rattle.sv_effect.specs.Reads.{read_of}
+use Rattle.sv_trace.specs.Laws.{RowsAreOf}
+use Rattle.sv_listing.specs.Right.{Right}
 use Rattle.sv_core.specs.declared.prepared.Prepared.{Prepared}
 use Rattle.sv_core.specs.Document.{Document}
 use Rattle.sv_core.specs.History.{answered, answers, moves, tables_at}
@@ -30,6 +32,10 @@ pub record CanMakeAll (w : WorldView) (steps : List Step) : Type 0 where
   pub gos : moves w.medium.history + total step_moves steps ≤ (doc_of w.medium).moves
   pub places : length w.medium.proposals ≡ 64
 
+-- the dictionary of a world's document is right for it
+abbrev pub IsRuled : WorldView → Type 0
+IsRuled w = Right (doc_of w.medium).schema (doc_of w.medium).txns w.medium.doc.dict
+
 -- what making a step leaves of a text and a world: its line more, and the state behind it
 pub record Stepped (before : List ℕ) (w : WorldView) (step : Step) (after : List ℕ) (next : WorldView) : Type 0 where
   pub line : List ℕ
@@ -42,11 +48,12 @@ pub record Replayed (before : List ℕ) (w : WorldView) (steps : List Step) (aft
   pub are : AreSteps w steps text next
   pub grown : after ≡ before ++ text
 
--- of the steps of a world these are left: what they lead to is what all of them lead to
+-- of the steps of a world these are left: what they lead to is what all of them lead to, and the dictionary is still right
 pub record StandsBefore (before : List ℕ) (w : WorldView) (steps : List Step) (now : List ℕ) (next : WorldView) (left : List Step) : Type 0 where
   pub text : List ℕ
   pub grown : now ≡ before ++ text
   pub can : CanMakeAll next left
+  pub ruled : IsRuled next
   pub leads : (rest : List ℕ) (after : WorldView) → AreSteps next left rest after → AreSteps w steps (text ++ rest) after
 
 -- an answer that was prepared for the session's next request at the site where it is, on the tables that this site has now
@@ -56,3 +63,4 @@ pub record IsReady (m : MediumView) (p : Prepared) : Type 0 where
   pub next : p.index ≡ answered m.history p.session
   pub agrees : Agrees (bare (tables_at (doc_of m) m.history p.site)) (map read_of p.reads)
   pub valid : Valid (doc_of m).schema (bare (tables_at (doc_of m) m.history p.site))
+  pub stand : RowsAreOf (doc_of m).schema (bare (tables_at (doc_of m) m.history p.site))

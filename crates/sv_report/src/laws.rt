@@ -1,8 +1,8 @@
-//! What the definitions promise of a replay, as calls that do nothing: their contracts are the laws.
+//! What the definitions promise of a replay and of `compile`, as calls that do nothing: their contracts are the laws.
 
 ghost use Rattle.std.specs.Prelude.{ℕ};
 ghost use Rattle.sv_effect.specs.StampedTables.{StampedTables};
-ghost use Rattle.sv_report.specs.Laws.{ReplaysAreLegal, ReplaysAreOne, TextsAreOne};
+ghost use Rattle.sv_report.specs.Laws.{ReplaysAreLegal, ReplaysAreOne, SameCompiled, TextsAreOne};
 ghost use Rattle.sv_report.specs.ReplayText.{rows_of};
 ghost use Rattle.sv_report.specs.Shows.{AreRowsOf};
 
@@ -24,4 +24,9 @@ pub fn replays_are_one()
 /// A document has one text, wherever its application lies in memory.
 pub fn texts_are_one()
     ensures { TextsAreOne }
+{}
+
+/// Dictionaries that are the same but for certificates have one text of `compile`.
+pub fn same_compiled()
+    ensures { SameCompiled }
 {}

@@ -1,6 +1,8 @@
-//! The lines of a replay, and its steps: what each step does to a world, and what is printed of it.
+//! The lines of a replay, and its steps: what each step does to a world, and what is printed of it. And what `compile`
+//! prints of a dictionary.
 #![tactic(auto)]
 
+mod compiles;
 mod laws;
 mod replays;
 mod replies;
@@ -8,7 +10,8 @@ mod shows;
 mod texts;
 mod values;
 
-pub use laws::{replays_are_legal, replays_are_one, rows_are_listed, texts_are_one};
+pub use compiles::put_compile;
+pub use laws::{replays_are_legal, replays_are_one, rows_are_listed, same_compiled, texts_are_one};
 pub use replays::replay_steps;
 pub use replies::{put_commit, put_cut, put_delivered, put_gone, put_order, put_settled};
 pub use shows::put_rows;

@@ -10,7 +10,7 @@ ghost use Rattle.sv_core.specs.Mediums.{doc_of};
 ghost use Rattle.sv_core.specs.Sound.{IsSite, RequestFits};
 ghost use Rattle.sv_workload.specs.declared.parts.Step.TheVariants as steps;
 ghost use Rattle.sv_report.specs.ReplayText.{started};
-ghost use Rattle.sv_report.specs.Steps.{CanMakeAll, IsReady, Replayed, Stepped, StepsFit};
+ghost use Rattle.sv_report.specs.Steps.{CanMakeAll, IsReady, IsRuled, Replayed, Stepped, StepsFit};
 
 use crate::replies::{
     put_caught, put_commit, put_cut, put_delivered, put_gone, put_order, put_settled,
@@ -36,6 +36,7 @@ fn prepared(alloc: Global, w: &World, session: u16, request: &Request) -> Result
     requires who { IsSession session }
     requires fits { RequestFits (doc_of w.now.medium) request.now }
     requires unlisted { (doc_of w.now.medium).sessions ≡ [] }
+    requires ruled { IsRuled w.now }
     ensures ready { IfOk result (IsReady w.now.medium) }
     ensures whose { IfOk result (λ p. p.session ≡ session) }
     ensures asked { IfOk result (λ p. p.request ≡ request.now) }
@@ -65,6 +66,7 @@ fn make_ask(
     requires awaited { IsAwaited w.old.medium }
     requires unlisted { (doc_of w.old.medium).sessions ≡ [] }
     requires places { length w.old.medium.proposals ≡ 64 }
+    requires ruled { IsRuled w.old }
     ensures { OnOk result (Stepped out.old.items w.old (steps.Ask session request.now) out.new.items w.new) }
 {
     let p = prepared(alloc, w, session, request)?;
@@ -156,7 +158,8 @@ fn make_move(out: &mut Vec<u8>, w: &mut World, session: u16, site: Site) -> Resu
 /// Makes a step on the world, and appends its lines.
 #[tactic(auto, using(crate::proofs::StepLaws::fitting))]
 fn make_step(alloc: Global, out: &mut Vec<u8>, w: &mut World, step: Step) -> Result<(), NoMemory>
-    requires { CanMakeAll w.old (step ∷ []) }
+    requires can { CanMakeAll w.old (step ∷ []) }
+    requires ruled { IsRuled w.old }
     ensures { OnOk result (Stepped out.old.items w.old step out.new.items w.new) }
 {
     match step {
@@ -171,7 +174,8 @@ fn make_step(alloc: Global, out: &mut Vec<u8>, w: &mut World, step: Step) -> Res
     }
 }
 
-/// Makes the steps on a world that was just started, by its events, and appends their lines.
+/// Makes the steps on a world that was just started, by its events, and appends their lines. The document's dictionary is
+/// right for it.
 ///
 /// # Errors
 ///
@@ -185,6 +189,7 @@ pub fn replay_steps(
 ) -> Result<(), NoMemory>
     requires begun { w.old ≡ started w.old.medium.doc }
     requires fit { StepsFit (document_of w.old.medium.doc) steps }
+    requires ruled { IsRuled w.old }
     ensures { OnOk result (Replayed out.old.items w.old steps out.new.items w.new) }
 {
     for step in steps.into_vec() {

@@ -54,7 +54,7 @@ pub(crate) fn put_numbered(out: &mut Vec<u8>, word: &[u8], number: u64) -> Resul
 }
 
 /// Appends what a change is threatened by.
-fn put_reason(out: &mut Vec<u8>, reason: &Reason) -> Result<(), NoMemory>
+pub(crate) fn put_reason(out: &mut Vec<u8>, reason: &Reason) -> Result<(), NoMemory>
     ensures { OnOk result (out.new.items ≡ out.old.items ++ reason_text reason.now) }
 {
     match reason {

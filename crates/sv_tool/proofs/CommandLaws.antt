@@ -7,10 +7,11 @@ use Rattle.sv_app.specs.declared.refusals.Refusal.{Refusal}
 use Rattle.sv_tool.specs.declared.answers.Answer.{Answer as CodeAnswer}
 use Rattle.sv_tool.specs.declared.statuses.Status.TheVariants.{Done}
 use Rattle.sv_tool.specs.declared.words.Command.{Command}
-use Rattle.sv_tool.specs.declared.words.Command.TheVariants.{Replay, Check}
+use Rattle.sv_tool.specs.declared.words.Command.TheVariants.{Replay, Check, Compile}
 use Rattle.sv_tool.specs.Answer.{Answer, at_the_front, refused_with}
 use Rattle.sv_tool.specs.CheckText.{IsCheckAnswer}
 use Rattle.sv_tool.specs.CheckText as check
+use Rattle.sv_tool.specs.CompileAnswer as compile
 use Rattle.sv_tool.specs.Commands.{IsAnswerOf, IsAnswerTo}
 use Rattle.sv_tool.specs.Documents.{IsRefusedAt, Long}
 use Rattle.sv_tool.specs.ReadDocument.{said_by}
@@ -22,6 +23,7 @@ use Rattle.sv_tool.proofs.OneLaws.{answer_once}
 refused : (command : Command) (bytes : List ℕ) (refusal : Refusal) → IsRefusedAt bytes refusal → IsAnswerOf command bytes (refused_with refusal)
 refused Replay bytes refusal is = replay.Refuses refusal is
 refused Check bytes refusal is = check.Refuses refusal is
+refused Compile bytes refusal is = compile.Refuses refusal is
 
 pub refused_answer : (command : Command) (bytes : List ℕ) (refusal : Refusal) (result : Result CodeAnswer OutOfMemory) → IsRefusedAt bytes refusal
     → IfOk result (λ answer. said_by answer ≡ refused_with refusal) → IfOk result (λ answer. IsAnswerOf command bytes (said_by answer))

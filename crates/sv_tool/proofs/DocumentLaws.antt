@@ -16,13 +16,15 @@ use Rattle.sv_app.specs.Numbers.{numbered}
 use Rattle.sv_app.specs.Schema.{Declaration}
 use Rattle.sv_app.specs.Trees.{Transaction}
 use Rattle.sv_app.specs.TxnNumbers.{numbered_txns}
+use Rattle.sv_dict.specs.Refused.{IsRefusal as IsStop}
+use Rattle.sv_listing.specs.TooMuch.{KeepsLimits}
 use Rattle.sv_schema_reader.specs.Refused.{IsRead}
 use Rattle.sv_txn_reader.specs.Refused.{AreRead}
 use Rattle.sv_workload.specs.declared.parts.Parts.{Parts}
 use Rattle.sv_workload.specs.Documents.{AreParts}
 use Rattle.sv_workload.specs.Documents as workload
 use Rattle.sv_tool.specs.declared.documents.Checked.{Checked}
-use Rattle.sv_tool.specs.Documents.{AreWhole, AreAccepted, IsDocument, IsLater, InParts, IsRefusalBehind, IsRefusal, Behind, IsRefusedAt, Faulty, InTokens, code_of}
+use Rattle.sv_tool.specs.Documents.{AreWhole, AreAccepted, IsDocument, IsLater, TooMuch, InParts, IsRefusalBehind, IsRefusal, Behind, IsRefusedAt, Faulty, InTokens, code_of}
 use Rattle.sv_tool.specs.ReadDocument.{IsAppOf, IsBehind, IsOfBytes, IsOfTokens}
 
 -- the parts of an accepted application
@@ -31,13 +33,22 @@ module _ (declarations applied : List Declaration) (txns numbers : List Transact
       → AreParts (numbered declarations) (numbered_txns declarations txns) rest parts
   parts_there tables are parts x = subst (λ (p : List Declaration × List Transaction). AreParts p.0 p.1 rest parts) (λ i. (tables i, are i)) x
 
-  pub whole_read : (parts : Parts) → IsAccepted declarations txns → applied ≡ numbered declarations → numbers ≡ numbered_txns declarations txns → AreParts applied numbers rest parts
-      → AreWhole declarations txns rest parts
-  whole_read parts accepted tables are x = record { accepted = accepted; behind = parts_there tables are parts x }
+  limits_there : applied ≡ numbered declarations → numbers ≡ numbered_txns declarations txns → KeepsLimits applied numbers → KeepsLimits (numbered declarations) (numbered_txns declarations txns)
+  limits_there tables are x = subst (λ (p : List Declaration × List Transaction). KeepsLimits p.0 p.1) (λ i. (tables i, are i)) x
 
-  pub parts_refused : (end : Spot) (refusal : Refusal) → IsAccepted declarations txns → applied ≡ numbered declarations → numbers ≡ numbered_txns declarations txns
+  pub whole_read : (parts : Parts) → IsAccepted declarations txns → applied ≡ numbered declarations → numbers ≡ numbered_txns declarations txns → KeepsLimits applied numbers → AreParts applied numbers rest parts
+      → AreWhole declarations txns rest parts
+  whole_read parts accepted tables are limits x = record { accepted = accepted; limits = limits_there tables are limits; behind = parts_there tables are parts x }
+
+  pub asks_too_much : (end : Spot) (stop : Stop) (refusal : Refusal) → IsAccepted declarations txns → applied ≡ numbered declarations → numbers ≡ numbered_txns declarations txns
+      → IsStop applied numbers stop → ◌≡◌ {A = Result Checked Stop} (Err stop) (Err (Refused refusal)) → IsLater declarations txns rest end refusal
+  asks_too_much end stop refusal accepted tables are x e =
+      let same : stop ≡ Refused refusal = cc in
+      TooMuch accepted (subst (λ (p : List Declaration × List Transaction). IsStop p.0 p.1 (Refused refusal)) (λ i. (tables i, are i)) (subst (IsStop applied numbers) same x))
+
+  pub parts_refused : (end : Spot) (refusal : Refusal) → IsAccepted declarations txns → applied ≡ numbered declarations → numbers ≡ numbered_txns declarations txns → KeepsLimits applied numbers
       → workload.IsRefused applied numbers rest end refusal → IsLater declarations txns rest end refusal
-  parts_refused end refusal accepted tables are x = InParts accepted (subst (λ (p : List Declaration × List Transaction). workload.IsRefused p.0 p.1 rest end refusal) (λ i. (tables i, are i)) x)
+  parts_refused end refusal accepted tables are limits x = InParts accepted (limits_there tables are limits) (subst (λ (p : List Declaration × List Transaction). workload.IsRefused p.0 p.1 rest end refusal) (λ i. (tables i, are i)) x)
 
 -- transactions behind tables
 pub accepted_behind : (result : Result Checked Stop) (declarations : List Declaration) (txns : List Transaction) (tokens behind : List Token) → AreRead txns tokens behind

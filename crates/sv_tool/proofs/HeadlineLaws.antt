@@ -7,7 +7,7 @@ use Rattle.sv_io.specs.Flows.{TookFront}
 use Rattle.sv_tool.specs.declared.answers.Halt.{Halt}
 use Rattle.sv_tool.specs.declared.answers.Halt.TheVariants as halts
 use Rattle.sv_tool.specs.declared.words.Command.{Command}
-use Rattle.sv_tool.specs.declared.words.Command.TheVariants.{Replay, Check}
+use Rattle.sv_tool.specs.declared.words.Command.TheVariants.{Replay}
 use Rattle.sv_tool.specs.declared.statuses.Status.{Status}
 use Rattle.sv_tool.specs.declared.statuses.Status.TheVariants.{Done, Refused, Usage, SourceFailed, SinkFailed, NoMemory}
 use Rattle.sv_tool.specs.Answer.{Answer}
@@ -15,23 +15,7 @@ use Rattle.sv_tool.specs.Commands.{IsWordOf, IsAnswerOf, IsCommand, usage, IsAns
 use Rattle.sv_tool.specs.Headline.{Told, Headline}
 use Rattle.sv_tool.specs.ReplayAnswer.{IsLegalReplay, IsReplay}
 use Rattle.sv_tool.specs.Statuses.{status_number, status_of, Writes, Whole, Front}
-
--- ---- words
-
-first_length : List (List ℕ) → ℕ
-first_length [] = 0
-first_length (word ∷ words) = length word
-
-apart : (words : List (List ℕ)) → words ≡ codes "replay" ∷ [] → words ≡ codes "check" ∷ [] → ⊥
-unfolding first_length
-apart words p q = let six : 6 ≡ 5 = ap first_length (sym p ∙ q) in omega (arith, six)
-
--- words are of one command
-one_command : (a b : Command) (words : List (List ℕ)) → IsWordOf a words → IsWordOf b words → a ≡ b
-one_command Replay Replay words p q = refl
-one_command Check Check words p q = refl
-one_command Replay Check words p q = absurd (apart words p q)
-one_command Check Replay words p q = absurd (apart words q p)
+use Rattle.sv_tool.proofs.OneLaws.{one_command}
 
 other_status : (answer : Answer) → answer ≡ usage → answer.status ≡ Done → ⊥
 other_status answer is done = let two : 2 ≡ 0 = ap (λ (a : Answer). status_number a.status) (sym is) ∙ ap status_number done in omega (arith, two)

@@ -1,6 +1,7 @@
 pub mod AppendLaws
 pub mod CheckLaws
 pub mod CommandLaws
+pub mod CompileLaws
 pub mod DocumentLaws
 pub mod HeadlineLaws
 pub mod OneLaws

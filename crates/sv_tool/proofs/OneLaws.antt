@@ -1,5 +1,5 @@
 -- Words and bytes ask for one answer.
-use Rattle.std.proofs.Common.{◌≡◌, ◌∙◌, ℕ, ◌≤◌, ◌<◌, List, [], ◌∷◌, ◌++◌, length, Result, Ok, Err, refl, sym, ap, subst, arith, codes}
+use Rattle.std.proofs.Common.{◌≡◌, ◌∙◌, ◌⊎◌, inl, inr, ℕ, zero, suc, ◌≤◌, ◌<◌, List, [], ◌∷◌, ◌++◌, length, Option, Some, slice_get, Result, Ok, Err, refl, sym, ap, subst, arith, codes}
 use Rattle.std.specs.Fmt.{decimal}
 use Rattle.sv_io.specs.Flows.{most_bytes}
 use Rattle.sv_value.specs.declared.spots.Spot.{Spot}
@@ -13,6 +13,10 @@ use Rattle.sv_app.specs.Numbers.{numbered}
 use Rattle.sv_app.specs.Schema.{Declaration}
 use Rattle.sv_app.specs.Trees.{Transaction}
 use Rattle.sv_app.specs.TxnNumbers.{numbered_txns}
+use Rattle.sv_label.specs.Groups.{Group}
+use Rattle.sv_listing.specs.Frugal.{Frugal}
+use Rattle.sv_listing.specs.TooMuch.{IsRefusedFor}
+use Rattle.sv_dict.proofs.GroupLaws.{frugal_once}
 use Rattle.sv_schema_reader.proofs.ApartLaws.{tables_once, tables_apart}
 use Rattle.sv_schema_reader.proofs.OnceLaws as tables
 use Rattle.sv_txn_reader.specs.Refused.{AreRead}
@@ -22,6 +26,7 @@ use Rattle.sv_txn_reader.proofs.OnceLaws as transactions
 use Rattle.sv_typing.proofs.PlaceLaws as typing
 use Rattle.sv_core.specs.declared.docs.Doc.{Doc}
 use Rattle.sv_report.specs.ReplayText.{IsReplayText}
+use Rattle.sv_report.proofs.CompileLaws.{same_compiled}
 use Rattle.sv_report.proofs.DocumentLaws.{texts_are_one}
 use Rattle.sv_workload.specs.declared.parts.Parts.{Parts}
 use Rattle.sv_workload.specs.declared.parts.Step.{Step}
@@ -31,12 +36,14 @@ use Rattle.sv_workload.proofs.OnceLaws as parts
 use Rattle.sv_workload.proofs.OnceLaws.{parts_apart, parts_once}
 use Rattle.sv_tool.specs.declared.statuses.Status.TheVariants.{Done, Refused}
 use Rattle.sv_tool.specs.declared.words.Command.{Command}
-use Rattle.sv_tool.specs.declared.words.Command.TheVariants.{Replay, Check}
+use Rattle.sv_tool.specs.declared.words.Command.TheVariants.{Replay, Check, Compile}
 use Rattle.sv_tool.specs.Answer.{Answer, refused_with}
 use Rattle.sv_tool.specs.CheckText.{sizes_of, accepted_with, IsCheckAnswer, Accepts}
 use Rattle.sv_tool.specs.CheckText as check
 use Rattle.sv_tool.specs.Commands.{IsWordOf, IsAnswerOf, Of, Other}
-use Rattle.sv_tool.specs.Documents.{AreWhole, AreBehind, AreAccepted, IsDocument, IsLater, Unaccepted, InParts, IsRefusalBehind, UnreadTxns, Later, IsRefusal, Unread, Behind, IsRefusedAt, Long, Faulty, InTokens, code_of}
+use Rattle.sv_tool.specs.Documents.{AreWhole, AreBehind, AreAccepted, IsDocument, IsLater, Unaccepted, TooMuch, InParts, IsRefusalBehind, UnreadTxns, Later, IsRefusal, Unread, Behind, IsRefusedAt, Long, Faulty, InTokens, code_of}
+use Rattle.sv_tool.specs.CompileAnswer.{IsCompileAnswer, Compiles, compiled_with}
+use Rattle.sv_tool.specs.CompileAnswer as compile
 use Rattle.sv_tool.specs.Laws.{OneAnswer}
 use Rattle.sv_tool.specs.ReplayAnswer.{HasNoSteps, IsReplayAnswer, IsReplayOf, NoSteps, Replays, replay_document}
 use Rattle.sv_tool.specs.ReplayAnswer as replay
@@ -50,18 +57,52 @@ shown : (a b : Refusal) → a.spot.line ≡ b.spot.line → a.spot.col ≡ b.spo
 shown a b lines cols numbers =
     λ i. record { status = Refused; text = codes "refused " ++ decimal (lines i) ++ codes ":" ++ decimal (cols i) ++ codes " " ++ decimal (numbers i) ++ codes "\n" }
 
+-- the first transaction that asks for too much is one
+same_txn : (x y : Transaction) → ◌≡◌ {A = Option Transaction} (Some x) (Some y) → x ≡ y
+same_txn x y e = cc
+
+order : (a b : ℕ) → (a < b) ⊎ ((a ≡ b) ⊎ (b < a))
+order zero zero = inr (inl refl)
+order zero (suc b) = inl (omega arith)
+order (suc a) zero = inr (inr (omega arith))
+order (suc a) (suc b) = by (order a b)
+  where
+    by : (a < b) ⊎ ((a ≡ b) ⊎ (b < a)) → (suc a < suc b) ⊎ ((suc a ≡ suc b) ⊎ (suc b < suc a))
+    by (inl lt) = inl (omega (arith, lt))
+    by (inr (inl is)) = inr (inl (ap suc is))
+    by (inr (inr lt)) = inr (inr (omega (arith, lt)))
+
+asked_once : (schema : List Declaration) (txns : List Transaction) (a b : Refusal) → IsRefusedFor schema txns a → IsRefusedFor schema txns b → Shown a b
+asked_once schema txns a b x y = by (order x.number y.number)
+  where
+    spots : x.number ≡ y.number → a.spot ≡ b.spot
+    spots is =
+        let txn : x.too_much.txn ≡ y.too_much.txn = same_txn x.too_much.txn y.too_much.txn (sym x.too_much.declared ∙ ap (slice_get txns) is ∙ y.too_much.declared) in
+        x.spot_is ∙ ap (λ (t : Transaction). t.name.spot) txn ∙ sym y.spot_is
+
+    by : (x.number < y.number) ⊎ ((x.number ≡ y.number) ⊎ (y.number < x.number)) → Shown a b
+    by (inl before) = absurd (y.first x.number before x.too_much)
+    by (inr (inl is)) = shown a b (ap (λ (s : Spot). s.line) (spots is)) (ap (λ (s : Spot). s.col) (spots is)) (ap number_of (x.code_is ∙ sym y.code_is))
+    by (inr (inr before)) = absurd (x.first y.number before y.too_much)
+
 -- behind tables and transactions
 
 module _ (schema : List Declaration) (txns : List Transaction) (rest : List Token) (end : Spot) where
   later_apart : (read : Parts) (refusal : Refusal) → AreWhole schema txns rest read → IsLater schema txns rest end refusal → ⊥
   later_apart read refusal whole (Unaccepted is) = typing.never_both schema txns refusal whole.accepted is
-  later_apart read refusal whole (InParts accepted is) = parts_apart (numbered schema) (numbered_txns schema txns) rest end refusal read whole.behind is
+  later_apart read refusal whole (TooMuch accepted is) = whole.limits is.number is.too_much
+  later_apart read refusal whole (InParts accepted limits is) = parts_apart (numbered schema) (numbered_txns schema txns) rest end refusal read whole.behind is
 
   later_once : (a b : Refusal) → IsLater schema txns rest end a → IsLater schema txns rest end b → Shown a b
   later_once a b (Unaccepted x) (Unaccepted y) = let same = typing.refused_once schema txns a b x y in shown a b same.0 same.1 same.2
-  later_once a b (Unaccepted x) (InParts accepted y) = absurd (typing.never_both schema txns a accepted x)
-  later_once a b (InParts accepted x) (Unaccepted y) = absurd (typing.never_both schema txns b accepted y)
-  later_once a b (InParts accepted x) (InParts again y) =
+  later_once a b (Unaccepted x) (TooMuch accepted y) = absurd (typing.never_both schema txns a accepted x)
+  later_once a b (Unaccepted x) (InParts accepted limits y) = absurd (typing.never_both schema txns a accepted x)
+  later_once a b (TooMuch accepted x) (Unaccepted y) = absurd (typing.never_both schema txns b accepted y)
+  later_once a b (TooMuch accepted x) (TooMuch again y) = asked_once (numbered schema) (numbered_txns schema txns) a b x y
+  later_once a b (TooMuch accepted x) (InParts again limits y) = absurd (limits x.number x.too_much)
+  later_once a b (InParts accepted limits x) (Unaccepted y) = absurd (typing.never_both schema txns b accepted y)
+  later_once a b (InParts accepted limits x) (TooMuch again y) = absurd (limits y.number y.too_much)
+  later_once a b (InParts accepted limits x) (InParts again kept y) =
       let same = parts.refused_once (numbered schema) (numbered_txns schema txns) rest end a b x y in shown a b (ap (λ (s : Spot). s.line) same.0) (ap (λ (s : Spot). s.col) same.0) same.1
 
 -- behind tables
@@ -163,6 +204,16 @@ module _ (bytes : List ℕ) where
   check_once a b (check.Refuses refusal is) (Accepts ds ts p d) = document_apart ds ts p refusal d is
   check_once a b (check.Refuses x is) (check.Refuses y its) = refused_once x y is its
 
+  compile_once : (a b : Answer) → IsCompileAnswer bytes a → IsCompileAnswer bytes b → a ≡ b
+  compile_once a b (Compiles ds ts p groups d frugal) (Compiles es us q others e lean) =
+      let same = document_once ds es ts us p q d e in
+      let there : Frugal (numbered es) (numbered_txns es us) groups = subst (λ (x : List Declaration × List Transaction). Frugal (numbered x.0) (numbered_txns x.0 x.1) groups) (λ i. (same.tables i, same.txns i)) frugal in
+      (λ i. compiled_with (numbered_txns (same.tables i) (same.txns i)) groups)
+      ∙ ap (λ l. record { status = Done; text = l }) (same_compiled (numbered_txns es us) groups others (frugal_once (numbered es) (numbered_txns es us) groups others there lean))
+  compile_once a b (Compiles ds ts p groups d frugal) (compile.Refuses refusal is) = document_apart ds ts p refusal d is
+  compile_once a b (compile.Refuses refusal is) (Compiles ds ts p groups d frugal) = document_apart ds ts p refusal d is
+  compile_once a b (compile.Refuses x is) (compile.Refuses y its) = refused_once x y is its
+
   same_steps : (xs ys : List Step) → ◌≡◌ {A = Work} (works.Replay xs) (works.Replay ys) → xs ≡ ys
   same_steps xs ys e = cc
 
@@ -192,20 +243,31 @@ module _ (bytes : List ℕ) where
 pub answer_once : (command : Command) (bytes : List ℕ) (a b : Answer) → IsAnswerOf command bytes a → IsAnswerOf command bytes b → a ≡ b
 answer_once Replay bytes a b x y = replay_once bytes a b x y
 answer_once Check bytes a b x y = check_once bytes a b x y
+answer_once Compile bytes a b x y = compile_once bytes a b x y
 
--- the words of two commands differ
-two_words : {A : Type 0} (words : List (List ℕ)) → words ≡ codes "replay" ∷ [] → words ≡ codes "check" ∷ [] → A
-two_words words e f = let bad : 6 ≡ 5 = ap first_length (sym e ∙ f) in absurd (omega (arith, bad))
-  where
-    first_length : List (List ℕ) → ℕ
-    first_length [] = 0
-    first_length (word ∷ others) = length word
+-- the words of two commands differ: they are of different lengths
+first_length : List (List ℕ) → ℕ
+first_length [] = 0
+first_length (word ∷ others) = length word
+
+two_words : {A : Type 0} (words : List (List ℕ)) (m n : ℕ) → first_length words ≡ m → first_length words ≡ n → (m ≡ n → ⊥) → A
+two_words words m n is its apart = absurd (apart (sym is ∙ its))
+
+-- so words are of one command
+pub one_command : (a b : Command) (words : List (List ℕ)) → IsWordOf a words → IsWordOf b words → a ≡ b
+unfolding first_length
+one_command Replay Replay words v w = refl
+one_command Replay Check words v w = two_words words 6 5 (ap first_length v) (ap first_length w) (λ e. omega (arith, e))
+one_command Replay Compile words v w = two_words words 6 7 (ap first_length v) (ap first_length w) (λ e. omega (arith, e))
+one_command Check Replay words v w = two_words words 5 6 (ap first_length v) (ap first_length w) (λ e. omega (arith, e))
+one_command Check Check words v w = refl
+one_command Check Compile words v w = two_words words 5 7 (ap first_length v) (ap first_length w) (λ e. omega (arith, e))
+one_command Compile Replay words v w = two_words words 7 6 (ap first_length v) (ap first_length w) (λ e. omega (arith, e))
+one_command Compile Check words v w = two_words words 7 5 (ap first_length v) (ap first_length w) (λ e. omega (arith, e))
+one_command Compile Compile words v w = refl
 
 command_once : (words : List (List ℕ)) (bytes : List ℕ) (a b : Answer) (c d : Command) → IsWordOf c words → IsWordOf d words → IsAnswerOf c bytes a → IsAnswerOf d bytes b → a ≡ b
-command_once words bytes a b Replay Replay v w x y = answer_once Replay bytes a b x y
-command_once words bytes a b Replay Check v w x y = two_words words v w
-command_once words bytes a b Check Replay v w x y = two_words words w v
-command_once words bytes a b Check Check v w x y = answer_once Check bytes a b x y
+command_once words bytes a b c d v w x y = answer_once d bytes a b (subst (λ command. IsAnswerOf command bytes a) (one_command c d words v w) x) y
 
 pub one_answer : OneAnswer
 one_answer words bytes a b (Of c v x) (Of d w y) = command_once words bytes a b c d v w x y

@@ -8,11 +8,14 @@ use Rattle.sv_app.specs.declared.refusals.Code.TheVariants.{Syntax}
 use Rattle.sv_app.specs.declared.refusals.Refusal.{Refusal}
 use Rattle.sv_app.specs.Schema.{schema_of}
 use Rattle.sv_app.specs.Trees.{transactions_of}
+use Rattle.sv_label.specs.Groups.{Group}
+use Rattle.sv_listing.specs.Frugal.{Frugal}
+use Rattle.sv_listing.specs.Right.{Right}
 use Rattle.sv_lex.specs.Spots.{spot_at}
 use Rattle.sv_core.specs.declared.docs.Doc.{Doc}
-use Rattle.sv_core.specs.Document.{document_of}
+use Rattle.sv_core.specs.Document.{Document, document_of}
 use Rattle.sv_core.specs.Mediums.{WorldView}
-use Rattle.sv_core.specs.Sound.{ItemFits, Sound}
+use Rattle.sv_core.specs.Sound.{ItemFits, Sound, SoundDoc}
 use Rattle.sv_report.specs.ReplayText.{AreSteps, started}
 use Rattle.sv_report.specs.Steps.{Replayed, StepsFit}
 use Rattle.sv_report.proofs.LegalLaws.{replays_are_legal}
@@ -55,7 +58,7 @@ module _ (checked : Checked) (steps : List Step) (fit : IsFit checked) (work : c
   pub few_steps : length steps ≤ 65536
   few_steps = fits.short.0
 
-  module _ (doc : Doc) (is : document_of doc ≡ replay_document (schema_of checked.app.tables.items) (transactions_of checked.app.txns.items) checked.parts steps) where
+  module _ (doc : Doc) (dict : doc.dict ≡ checked.dict) (is : document_of doc ≡ replay_document (schema_of checked.app.tables.items) (transactions_of checked.app.txns.items) checked.parts steps) where
     sound : Sound (document_of doc)
     sound = subst Sound (sym is) (record {
       accepted = fit.accepted;
@@ -75,21 +78,28 @@ module _ (checked : Checked) (steps : List Step) (fit : IsFit checked) (work : c
       moves = fits.moves;
     })
 
+    sound_doc : SoundDoc doc
+    sound_doc = record {
+      document = sound;
+      frugal = subst (λ (p : Document × List Group). Frugal p.0.schema p.0.txns p.1) (λ i. (sym is i, sym dict i)) fit.frugal;
+      right = subst (λ (p : Document × List Group). Right p.0.schema p.0.txns p.1) (λ i. (sym is i, sym dict i)) fit.right;
+    }
+
     steps_fit : StepsFit (document_of doc) steps
     steps_fit = subst (λ d. StepsFit d steps) (sym is) (record { unlisted = refl; each = fits.each; asks = omega arith; moves = omega arith })
 
     pub replay_read : (replay : Replay) → replay ≡ record { doc = doc; steps = steps } → IsReplayIn checked replay
-    replay_read replay same = subst (IsReplayIn checked) (sym same) (record { work = work; document = is; sound = sound; fit = steps_fit })
+    replay_read replay same = subst (IsReplayIn checked) (sym same) (record { work = work; document = is; sound = sound_doc; fit = steps_fit })
 
 -- the text of steps that were made, and `end`
-pub replayed : (doc : Doc) (steps : List Step) (before made text : List ℕ) (w next : WorldView) → Sound (document_of doc) → StepsFit (document_of doc) steps → w ≡ started doc → before ≡ []
+pub replayed : (doc : Doc) (steps : List Step) (before made text : List ℕ) (w next : WorldView) → SoundDoc doc → StepsFit (document_of doc) steps → w ≡ started doc → before ≡ []
     → Replayed before w steps made next → text ≡ made ++ codes "end\n" → IsReplayed doc steps text
 replayed doc steps before made text w next sound fit begun none all ends = record {
   lines = all.text;
   after = next;
   are = are;
   ends = ends ∙ ap (λ l. l ++ codes "end\n") (all.grown ∙ ap (λ l. l ++ all.text) none);
-  legal = replays_are_legal doc steps all.text next sound fit are;
+  legal = replays_are_legal doc steps all.text next sound.document fit are;
 }
   where
     are : AreSteps (started doc) steps all.text next

@@ -2,21 +2,24 @@
 -- `IsWordOf` and of `IsAnswerOf`.
 use Rattle.std.specs.Prelude.{◌≡◌, ℕ, List, Option, IfSome, codes}
 use Rattle.sv_tool.specs.declared.words.Command.{Command}
-use Rattle.sv_tool.specs.declared.words.Command.TheVariants.{Replay, Check}
+use Rattle.sv_tool.specs.declared.words.Command.TheVariants.{Replay, Check, Compile}
 use Rattle.sv_tool.specs.declared.statuses.Status.TheVariants.{Usage}
 use Rattle.sv_tool.specs.Answer.{Answer}
 use Rattle.sv_tool.specs.CheckText.{IsCheck, IsCheckAnswer}
+use Rattle.sv_tool.specs.CompileAnswer.{IsCompile, IsCompileAnswer}
 use Rattle.sv_tool.specs.ReplayAnswer.{IsReplay, IsReplayAnswer}
 
 -- the words of a command
 abbrev pub IsWordOf : Command → List (List ℕ) → Type 0
 IsWordOf Replay words = IsReplay words
 IsWordOf Check words = IsCheck words
+IsWordOf Compile words = IsCompile words
 
 -- what a command answers to the bytes of a document
 abbrev pub IsAnswerOf : Command → List ℕ → Answer → Type 0
 IsAnswerOf Replay bytes answer = IsReplayAnswer bytes answer
 IsAnswerOf Check bytes answer = IsCheckAnswer bytes answer
+IsAnswerOf Compile bytes answer = IsCompileAnswer bytes answer
 
 abbrev pub IsCommand : List (List ℕ) → Type 0
 IsCommand words = (command : Command) × IsWordOf command words

@@ -1,5 +1,5 @@
 -- Which bytes are a document that is accepted, and why others are refused, whatever the command. Refusals come in this order: too many bytes, tokens, tables,
--- transactions, names and types, cycles, checks that no row meets, initial rows, and the last part.
+-- transactions, names and types, cycles, checks that no row meets, transactions that ask for too much before any run, initial rows, and the last part.
 use Rattle.std.specs.Prelude.{◌≡◌, ℕ, ◌<◌, ◌≤◌, List, ◌++◌, length, Ok, Err}
 use Rattle.sv_io.specs.Flows.{most_bytes}
 use Rattle.sv_value.specs.declared.spots.Spot.{Spot}
@@ -15,6 +15,7 @@ use Rattle.sv_app.specs.Numbers.{numbered}
 use Rattle.sv_app.specs.Schema.{Declaration}
 use Rattle.sv_app.specs.Trees.{Transaction}
 use Rattle.sv_app.specs.TxnNumbers.{numbered_txns}
+use Rattle.sv_listing.specs.TooMuch.{KeepsLimits, IsRefusedFor}
 use Rattle.sv_schema_reader.specs.Refused.{IsRefused, IsRead}
 use Rattle.sv_txn_reader.specs.Refused.{AreRead}
 use Rattle.sv_txn_reader.specs.Refused as txns
@@ -30,9 +31,10 @@ code_of (LongNumber at) = Many
 code_of (LongText at) = Many
 code_of (LongName at) = Many
 
--- the application is accepted, and the tokens behind its transactions are these parts, of which nothing is refused
+-- the application is accepted and asks for no more than a dictionary may hold, and the tokens behind its transactions are these parts, of which nothing is refused
 pub record AreWhole (schema : List Declaration) (transactions : List Transaction) (rest : List Token) (read : Parts) : Type 0 where
   pub accepted : IsAccepted schema transactions
+  pub limits : KeepsLimits (numbered schema) (numbered_txns schema transactions)
   pub behind : AreParts (numbered schema) (numbered_txns schema transactions) rest read
 
 -- tokens of transactions and parts that are accepted with these tables before them
@@ -59,7 +61,8 @@ pub record IsDocument (bytes : List ℕ) (schema : List Declaration) (transactio
 -- why tables and transactions are refused that were read, or the tokens behind them, where the document ends there
 pub data IsLater (schema : List Declaration) (transactions : List Transaction) (rest : List Token) (end : Spot) (refusal : Refusal) : Type 0 where
   Unaccepted : IsUnaccepted schema transactions refusal → IsLater schema transactions rest end refusal
-  InParts : IsAccepted schema transactions → parts.IsRefused (numbered schema) (numbered_txns schema transactions) rest end refusal → IsLater schema transactions rest end refusal
+  TooMuch : IsAccepted schema transactions → IsRefusedFor (numbered schema) (numbered_txns schema transactions) refusal → IsLater schema transactions rest end refusal
+  InParts : IsAccepted schema transactions → KeepsLimits (numbered schema) (numbered_txns schema transactions) → parts.IsRefused (numbered schema) (numbered_txns schema transactions) rest end refusal → IsLater schema transactions rest end refusal
 
 -- why tokens behind these tables are refused
 pub data IsRefusalBehind (schema : List Declaration) (tokens : List Token) (end : Spot) (refusal : Refusal) : Type 0 where

@@ -2,6 +2,7 @@ pub mod Accepted
 pub mod Answer
 pub mod CheckText
 pub mod Commands
+pub mod CompileAnswer
 pub mod Documents
 pub mod Headline
 pub mod Laws

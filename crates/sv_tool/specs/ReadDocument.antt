@@ -7,6 +7,8 @@ use Rattle.sv_app.specs.Numbers.{numbered}
 use Rattle.sv_app.specs.Schema.{Declaration, schema_of}
 use Rattle.sv_app.specs.Trees.{Transaction, transactions_of}
 use Rattle.sv_app.specs.TxnNumbers.{numbered_txns}
+use Rattle.sv_listing.specs.Frugal.{Frugal}
+use Rattle.sv_listing.specs.Right.{Right}
 use Rattle.sv_workload.specs.PartsFit.{PartsFit}
 use Rattle.sv_tool.specs.declared.answers.Answer.{Answer as CodeAnswer}
 use Rattle.sv_tool.specs.declared.documents.Checked.{Checked}
@@ -18,9 +20,11 @@ pub record IsAppOf (schema : List Declaration) (txns : List Transaction) (app : 
   pub tables : schema_of app.tables.items ≡ numbered schema
   pub transactions : transactions_of app.txns.items ≡ numbered_txns schema txns
 
--- the application is accepted, and what stands behind its transactions fits it
+-- the application is accepted, its dictionary is frugal and right, and what stands behind its transactions fits it
 pub record IsFit (checked : Checked) : Type 0 where
   pub accepted : AcceptedApp (schema_of checked.app.tables.items) (transactions_of checked.app.txns.items)
+  pub frugal : Frugal (schema_of checked.app.tables.items) (transactions_of checked.app.txns.items) checked.dict
+  pub right : Right (schema_of checked.app.tables.items) (transactions_of checked.app.txns.items) checked.dict
   pub parts : PartsFit (schema_of checked.app.tables.items) (transactions_of checked.app.txns.items) checked.parts
 
 -- what was read behind tables, from tokens, and from bytes

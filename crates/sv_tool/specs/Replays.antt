@@ -6,7 +6,7 @@ use Rattle.sv_core.specs.declared.docs.Doc.{Doc}
 use Rattle.sv_core.specs.Document.{document_of}
 use Rattle.sv_core.specs.Legal.{Legal}
 use Rattle.sv_core.specs.Mediums.{WorldView}
-use Rattle.sv_core.specs.Sound.{Sound}
+use Rattle.sv_core.specs.Sound.{SoundDoc}
 use Rattle.sv_report.specs.ReplayText.{AreSteps, started}
 use Rattle.sv_report.specs.Steps.{StepsFit}
 use Rattle.sv_workload.specs.declared.parts.Step.{Step}
@@ -19,7 +19,7 @@ use Rattle.sv_tool.specs.ReplayAnswer.{replay_document}
 pub record IsReplayIn (checked : Checked) (replay : Replay) : Type 0 where
   pub work : checked.parts.work ≡ works.Replay replay.steps
   pub document : document_of replay.doc ≡ replay_document (schema_of checked.app.tables.items) (transactions_of checked.app.txns.items) checked.parts replay.steps
-  pub sound : Sound (document_of replay.doc)
+  pub sound : SoundDoc replay.doc
   pub fit : StepsFit (document_of replay.doc) replay.steps
 
 -- the text of steps that were made, whose history is legal

@@ -11,6 +11,7 @@ ghost use Rattle.sv_tool.specs.declared.statuses.Status.TheVariants.{Done, Refus
 ghost use Rattle.sv_tool.specs.declared.words.Command.TheVariants.{Replay};
 
 use crate::checks::check_answer;
+use crate::compiles::compile_answer;
 use crate::replays::replay_answer;
 use crate::statuses::Status;
 use crate::words::Command;
@@ -92,6 +93,7 @@ fn answer_of(alloc: Global, command: Command, bytes: &[u8]) -> Result<Answer, No
     match command {
         Command::Replay => replay_answer(alloc, bytes),
         Command::Check => check_answer(alloc, bytes),
+        Command::Compile => compile_answer(alloc, bytes),
     }
 }
 

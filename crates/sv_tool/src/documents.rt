@@ -16,6 +16,8 @@ ghost use Rattle.sv_tool.specs.ReadDocument.{IsAppOf, IsBehind, IsFit, IsOfBytes
 
 use std::alloc::Global;
 use sv_app::{App, Code, Refusal, Stop, Table, Txn};
+use sv_dict::compile;
+use sv_label::Dictionary;
 use sv_lex::{LexStop, Token, TokenKind, lex, spot_of};
 use sv_schema_reader::read_schema;
 use sv_txn_reader::read_txns;
@@ -23,10 +25,11 @@ use sv_typing::accept;
 use sv_value::Spot;
 use sv_workload::{Parts, read_parts};
 
-/// A document that is accepted: its application, and what stands behind its transactions.
-#[derive(Debug, Drop)]
+/// A document that is accepted: its application with its dictionary, and what stands behind its transactions.
+#[derive(Drop)]
 pub struct Checked {
     pub app: App,
+    pub dict: Dictionary,
     pub parts: Parts,
 }
 
@@ -51,8 +54,11 @@ fn accept_read(
     ensures refused { (refusal : RefusalValue) → result ≡ Err (Refused refusal) → IsLater (schema_of tables.items) (transactions_of txns.items) (drop at tokens.now) end refusal }
 {
     match accept(alloc, tables, txns) {
-        Ok(app) => match read_parts(alloc, &app, tokens, end, at) {
-            Ok(parts) => Ok(Checked { app, parts }),
+        Ok(app) => match compile(alloc, &app) {
+            Ok(dict) => match read_parts(alloc, &app, tokens, end, at) {
+                Ok(parts) => Ok(Checked { app, dict, parts }),
+                Err(stop) => Err(stop),
+            },
             Err(stop) => Err(stop),
         },
         Err(stop) => Err(stop),

@@ -1,8 +1,9 @@
-//! Reads documents, checks and replays them, and writes what comes of them.
+//! Reads documents, checks, compiles and replays them, and writes what comes of them.
 #![tactic(auto)]
 
 mod answers;
 mod checks;
+mod compiles;
 mod documents;
 mod laws;
 mod replays;

@@ -3,7 +3,7 @@
 ghost use Rattle.std.specs.Prelude.{◌≡◌, ◌≤◌, IfOk, MatchOption, length};
 ghost use Rattle.sv_io.specs.Flows.{most_bytes};
 ghost use Rattle.sv_core.specs.Document.{document_of};
-ghost use Rattle.sv_core.specs.Sound.{Sound};
+ghost use Rattle.sv_core.specs.Sound.{SoundDoc};
 ghost use Rattle.sv_lex.specs.Spots.{spot_at};
 ghost use Rattle.sv_report.specs.Steps.{StepsFit};
 ghost use Rattle.sv_workload.specs.LastRefused.{total};
@@ -28,7 +28,7 @@ use sv_value::{List, NoMemory};
 use sv_workload::{Parts, Step, Work};
 
 /// What a document asks for: a world, and the steps that it takes, in order.
-#[derive(Debug, Drop)]
+#[derive(Drop)]
 pub struct Replay {
     pub doc: Doc,
     pub steps: List<Step>,
@@ -86,7 +86,7 @@ fn replay_in(alloc: Global, checked: Checked) -> Option<Replay>
     requires { IsFit checked }
     ensures { MatchOption result (HasNoSteps checked.parts.work) (IsReplayIn checked) }
 {
-    let Checked { app, parts } = checked;
+    let Checked { app, dict, parts } = checked;
     let Parts {
         init,
         sites,
@@ -101,6 +101,7 @@ fn replay_in(alloc: Global, checked: Checked) -> Option<Replay>
             Some(Replay {
                 doc: Doc {
                     app,
+                    dict,
                     init,
                     sites,
                     rows,
@@ -120,7 +121,7 @@ fn replay_in(alloc: Global, checked: Checked) -> Option<Replay>
 /// The text of a replay: the lines of its steps, and then `end`.
 #[tactic(auto, using(crate::proofs::ReplayLaws::replaying))]
 fn replay_text(alloc: Global, replay: Replay) -> Result<Vec<u8>, NoMemory>
-    requires sound { Sound (document_of replay.doc) }
+    requires sound { SoundDoc replay.doc }
     requires fit { StepsFit (document_of replay.doc) replay.steps }
     ensures { IfOk result (λ text. IsReplayed replay.doc replay.steps text.items) }
 {
@@ -134,7 +135,7 @@ fn replay_text(alloc: Global, replay: Replay) -> Result<Vec<u8>, NoMemory>
 
 /// The answer to a replay.
 fn replayed_answer(alloc: Global, replay: Replay) -> Result<Answer, NoMemory>
-    requires sound { Sound (document_of replay.doc) }
+    requires sound { SoundDoc replay.doc }
     requires fit { StepsFit (document_of replay.doc) replay.steps }
     ensures status { IfOk result (λ answer. answer.status ≡ Done) }
     ensures text { IfOk result (λ answer. IsReplayed replay.doc replay.steps answer.text.items) }

@@ -12,6 +12,8 @@ pub enum Command {
     Replay,
     /// To read a document, and say what it has or why it is refused.
     Check,
+    /// To print what is known of a document's transactions before any run.
+    Compile,
 }
 
 /// The words of a command line. Contracts see them as a list, each as its bytes.
@@ -67,6 +69,9 @@ impl Words {
         }
         if self.is_only("check") {
             return Some(Command::Check);
+        }
+        if self.is_only("compile") {
+            return Some(Command::Compile);
         }
         None
     }

@@ -3,8 +3,8 @@ use Rattle.std.specs.Vec.Iter.{into_iter_items}
 use Rattle.sv_report.proofs.StepLaws.{ends, next_can}
 use Rattle.sv_report.proofs.replays.replay_steps.Goals as goal
 
-pub make_step-requires : goal.make_step-requires
-make_step-requires c =
+pub make_step-requires-clause-can : goal.make_step-requires-clause-can
+make_step-requires-clause-can c =
     next_can _ _ _ _ _ (into_iter_items c.loop-step.step-iterator) (into_iter_items c.next.new.self) c.in-Some.step (search rules) c.loop-step.invariant.stands
 
 pub returns : goal.returns

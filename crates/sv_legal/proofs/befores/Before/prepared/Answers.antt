@@ -8,7 +8,7 @@ use Rattle.sv_plain.specs.Held.{medium_of}
 use Rattle.sv_legal.specs.Before.{doc_of, past_of}
 use Rattle.sv_legal.proofs.FindingLaws.{prepared_is}
 use Rattle.sv_legal.proofs.ListedLaws.{listed_at}
-use Rattle.sv_legal.proofs.ToldLaws.{are_narrow, few_changes, stand_then, tables_are, valid_then}
+use Rattle.sv_legal.proofs.ToldLaws.{are_narrow, few_changes, rows_then, stand_then, tables_are, valid_then}
 use Rattle.sv_legal.proofs.befores.Before.prepared.Goals as goal
 
 pub invariant_of-rows : goal.invariant_of-rows
@@ -36,8 +36,9 @@ pub returns-in-Ok : goal.returns-in-Ok
 returns-in-Ok c =
     prepared_is (doc_of c.args.self.now) (past_of c.args.self.now) c.args.asked.now.session c.args.asked.now.index c.args.asked.now.request.now c.args.asked.now.site c.args.asked.now.at c.in-Ok.p
     (bare (tables_of (doc_of c.args.self.now).schema c.items.result.now (medium_of (map (λ ops. ops.items) c.args.self.now.published.now)) (counts c.cut_at-cut.result)))
-    c.in-Ok.ensures.given c.in-Ok.ensures.made
+    c.in-Ok.ensures.given (c.in-Ok.ensures.made c.requires.ruled)
     (ap bare (tables_are (doc_of c.args.self.now) (past_of c.args.self.now) (map (λ ops. ops.items) c.args.self.now.published.now) c.items.result.now c.args.asked.now.site c.args.asked.now.at (counts c.cut_at-cut.result)
     c.requires.told c.items.ensures c.cut_at-cut.ensures))
     (valid_then (doc_of c.args.self.now) (past_of c.args.self.now) c.args.asked.now.site c.args.asked.now.at c.requires.told.lawful)
+    (rows_then (doc_of c.args.self.now) (past_of c.args.self.now) c.args.asked.now.site c.args.asked.now.at c.requires.told.lawful)
     c.in-Ok.ensures.honest

@@ -1,0 +1,12 @@
+-- Initial rows from which a store is made: they fit the schema, no two stand at one place, and they aren't too many.
+use Rattle.std.specs.Prelude.{◌≤◌, List, length}
+use Rattle.std.specs.List.{All}
+use Rattle.sv_app.specs.declared.requests.InitRow.{InitRow}
+use Rattle.sv_app.specs.Limits.{most_init_rows}
+use Rattle.sv_app.specs.Schema.{Declaration}
+use Rattle.sv_effect.specs.Initial.{InitFits, AreDistinct}
+
+pub record CanStand (schema : List Declaration) (init : List InitRow) : Type 0 where
+  pub fits : All (InitFits schema) init
+  pub apart : AreDistinct init
+  pub few : length init ≤ most_init_rows

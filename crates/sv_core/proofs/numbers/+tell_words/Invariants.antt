@@ -1,0 +1,5 @@
+use Rattle.std.proofs.Common.{length}
+use Rattle.sv_core.proofs.numbers.+tell_words.Given as goal
+
+abbrev pub decreases-tell_words : goal.decreases-tell_words
+decreases-tell_words l = length l.effects.now

@@ -1,0 +1,11 @@
+pub mod TellLaws
+pub mod TemplateLaws
+pub mod GroupLaws
+pub mod OpenLaws
+pub mod PartLaws
+pub mod LimitLaws
+pub mod ChangeLaws
+pub mod ExcessLaws
+pub mod NameLaws
+pub mod ListingLaws
+pub mod RightLaws
