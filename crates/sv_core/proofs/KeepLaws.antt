@@ -3,7 +3,7 @@ use Rattle.std.proofs.Common.{◌≡◌, ◌⊎◌, inl, inr, ℕ, zero, suc, �
 use Rattle.std.specs.Prelude.{All, max, IfSome}
 use Rattle.std.specs.Option.{option_map}
 use Rattle.std.proofs.lemmas.Bool.{cases_eq}
-use Rattle.std.proofs.lemmas.List.{length_push, length-set, map-set, reverse-append, get_or-set_same, get_or-set_other}
+use Rattle.std.proofs.lemmas.List.{length_push, length-map, length-set, map-set, reverse-append, get_or-set_same, get_or-set_other}
 use Rattle.sv_value.specs.declared.cuts.Cut.{Cut as CodeCut}
 use Rattle.sv_value.specs.declared.packets.Packet.{Packet}
 use Rattle.sv_value.specs.declared.packets.Packet.TheVariants.{Blue, Red}
@@ -23,7 +23,7 @@ use Rattle.sv_core.specs.Document.{Document, document_of}
 use Rattle.sv_core.specs.History.{History, cut_of, op_of, news, with_news, published, count_where, is_answer, is_move, answers, moves, answered, moved, is_of}
 use Rattle.sv_core.specs.Laws.{IsLawful}
 use Rattle.sv_core.specs.Legal.{IsSession, IsNext, IsApply, IsMove}
-use Rattle.sv_core.specs.Mediums.{IsNextCall, Proposal, MediumView, one_if, how_many_pending, doc_of, proposal_of, with_proposal, with_entry}
+use Rattle.sv_core.specs.Mediums.{AreNextCalls, IsNextCall, Proposal, MediumView, one_if, how_many_pending, doc_of, proposal_of, with_proposal, with_entry}
 use Rattle.sv_core.specs.MediumState.{IsAwaited, IsPending, IsSessionState, IsReply, Publishes, Keeps, shown, proposals_in, site_in}
 use Rattle.sv_core.specs.Packets.{packets_in}
 use Rattle.sv_core.specs.Publications.{Published, ArePublished, IsNamed, medium_in, with_blue, with_red, with_op}
@@ -32,7 +32,7 @@ use Rattle.sv_core.specs.WorldLaws.{IsFew}
 use Rattle.sv_core.proofs.BirthLaws.{lawful_before, same_pair}
 use Rattle.sv_core.proofs.FactLaws.{all_facts}
 use Rattle.sv_core.proofs.HistoryLaws.{due_of}
-use Rattle.sv_core.proofs.ListLaws.{get_last}
+use Rattle.sv_core.proofs.ListLaws.{get_last, get_some}
 use Rattle.sv_core.proofs.MediumLaws.{news_get}
 use Rattle.sv_core.proofs.PublicationLaws.{read_at, get_mapped, set_get, inserts_few, blue_in}
 use Rattle.sv_core.proofs.RoomLaws.{all_few}
@@ -522,3 +522,19 @@ view_exchanged m doc items sessions session new proposal is same = λ i. record 
   history = (is i).history;
   proposals = (map-set (λ s. shown s.proposal) sessions (session - 1) new ∙ (λ j. set (is j).proposals (session - 1) (same j))) i;
 }
+
+-- every operation that waits is that of its session's next call
+pub next_calls : (doc : Doc) (items : List Entry) (k : Published) (sessions : List Session) (capacity : ℕ)
+    → Keeps (document_of doc) (reverse items) k sessions capacity
+    → AreNextCalls (view_of doc items sessions)
+next_calls doc items k sessions capacity keeps = record {
+  long = length-map sessions (λ s. shown s.proposal) ∙ keeps.long;
+  each = λ session who. by session who (get_some sessions (session - 1) (omega (arith, who.from, who.to, keeps.long)));
+}
+  where
+    by : (session : ℕ) → IsSession session → (state : Session) × (slice_get sessions (session - 1) ≡ Some state)
+        → IfSome (proposal_of (view_of doc items sessions) session) (λ proposal. IsNextCall (view_of doc items sessions) session proposal)
+    by session who found =
+        let is : IsSessionState (document_of doc) (reverse items) session found.0 =
+        subst (λ n. IsSessionState (document_of doc) (reverse items) n found.0) (omega (arith, who.from)) (keeps.states (session - 1) found.0 found.1) in
+        next_call (view_of doc items sessions) session found.0.proposal (sym (get_mapped (λ s. shown s.proposal) sessions (session - 1) found.0 None found.1)) is.proposal

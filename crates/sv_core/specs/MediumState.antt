@@ -8,6 +8,7 @@ use Rattle.sv_effect.specs.BareTables.{bare}
 use Rattle.sv_effect.specs.Cut.{as_deps}
 use Rattle.sv_threat.specs.declared.label.Label.{Label}
 use Rattle.sv_threat.specs.declared.label.Label.TheVariants.{Nothing, Blue, Red}
+use Rattle.sv_core.specs.declared.docs.Doc.{Doc}
 use Rattle.sv_core.specs.declared.docs.Item.TheVariants.{Call}
 use Rattle.sv_core.specs.declared.entries.Entry.{Entry}
 use Rattle.sv_core.specs.declared.entries.Entry.TheVariants.{Answer, Apply, Move}
@@ -15,7 +16,7 @@ use Rattle.sv_core.specs.declared.prepared.Prepared.{Prepared}
 use Rattle.sv_core.specs.declared.sessions.Proposal.{Proposal as KeptProposal}
 use Rattle.sv_core.specs.declared.sessions.Session.{Session}
 use Rattle.sv_core.specs.Counts.{AreShort, AddsShort}
-use Rattle.sv_core.specs.Document.{Document}
+use Rattle.sv_core.specs.Document.{Document, document_of}
 use Rattle.sv_core.specs.Events.{IsFree, IsRed}
 use Rattle.sv_core.specs.History.{History, cut_of, back_to, tables_then, op_of, published, answers, answered, moved, is_of, site_of, seen_of}
 use Rattle.sv_core.specs.Laws.{IsLawful}
@@ -23,6 +24,7 @@ use Rattle.sv_core.specs.Legal.{IsListed}
 use Rattle.sv_core.specs.Made.{Made, IsRight}
 use Rattle.sv_core.specs.Mediums.{Proposal, MediumView, proposal_of, how_many_pending, doc_of}
 use Rattle.sv_core.specs.Publications.{Published, ArePublished}
+use Rattle.sv_core.specs.Sound.{SoundDoc}
 
 -- what was prepared for the session's next request, and run where so many entries stood, is right on the tables of that place, and the session was answered nothing since
 pub record IsHeld (doc : Document) (h : History) (session : ℕ) (proposal : KeptProposal) : Type 0 where
@@ -96,6 +98,11 @@ pub record Keeps (doc : Document) (h : History) (k : Published) (sessions : List
   pub states : (place : ℕ) (state : Session) → slice_get sessions place ≡ Some state → IsSessionState doc h (suc place) state
   pub awaited : answers h + how_many_pending (proposals_in sessions) ≤ doc.asks
   pub space : 9 * doc.asks + doc.moves ≤ capacity
+
+-- what a medium is: its document is sound, with a frugal and right dictionary, and its fields are those of its history
+pub record IsKept (doc : Doc) (h : History) (k : Published) (sessions : List Session) (capacity : ℕ) : Type 0 where
+  pub sound : SoundDoc doc
+  pub fields : Keeps (document_of doc) h k sessions capacity
 
 -- an answer of the session that publishes nothing
 abbrev pub IsReply : ℕ → Entry → Type 0

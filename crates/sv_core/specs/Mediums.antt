@@ -1,5 +1,5 @@
 -- What all sites share: the document, the history, and the proposal of each session that has one pending: a red operation that waits for its slot.
-use Rattle.std.specs.Prelude.{◌≡◌, ℕ, ◌+◌, ◌-◌, List, [], ◌∷◌, set, get_or, Option, Some, None}
+use Rattle.std.specs.Prelude.{◌≡◌, ℕ, ◌+◌, ◌-◌, List, [], ◌∷◌, length, set, get_or, Option, Some, None, IfSome}
 use Rattle.sv_value.specs.declared.packets.Packet.{Packet}
 use Rattle.sv_app.specs.declared.requests.Request.{Request}
 use Rattle.sv_core.specs.declared.docs.Doc.{Doc}
@@ -7,7 +7,7 @@ use Rattle.sv_core.specs.declared.docs.Item.TheVariants.{Call}
 use Rattle.sv_core.specs.declared.entries.Entry.{Entry}
 use Rattle.sv_core.specs.Document.{Document, document_of}
 use Rattle.sv_core.specs.History.{History, answered}
-use Rattle.sv_core.specs.Legal.{IsListed}
+use Rattle.sv_core.specs.Legal.{IsListed, IsSession}
 
 -- the request, its index, and how many entries stood when it was run
 pub record Proposal : Type 0 where
@@ -31,6 +31,11 @@ proposal_of m session = get_or m.proposals (session - 1) None
 pub record IsNextCall (m : MediumView) (session : ℕ) (proposal : Proposal) : Type 0 where
   pub next : proposal.index ≡ answered m.history session
   pub listed : IsListed (doc_of m) m.history session (Call proposal.request)
+
+-- the sessions 1 to 64 each have a place, and every proposal that is pending is for its session's next call
+pub record AreNextCalls (m : MediumView) : Type 0 where
+  pub long : length m.proposals ≡ 64
+  pub each : (session : ℕ) → IsSession session → IfSome (proposal_of m session) (λ proposal. IsNextCall m session proposal)
 
 abbrev pub with_proposal : MediumView → ℕ → Option Proposal → MediumView
 with_proposal m session proposal = record { doc = m.doc; history = m.history; proposals = set m.proposals (session - 1) proposal }

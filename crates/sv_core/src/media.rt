@@ -31,7 +31,7 @@ impl Model for Medium {
     ghost use Rattle.std.specs.Vec.{vec_capacity};
     ghost use Rattle.sv_core.specs.Document.{document_of};
     ghost use Rattle.sv_core.specs.Mediums.{MediumView};
-    ghost use Rattle.sv_core.specs.MediumState.{proposals_in, Keeps};
+    ghost use Rattle.sv_core.specs.MediumState.{proposals_in, IsKept};
     ghost use Rattle.std.specs.Coded.{codes};
     ghost use Rattle.sv_core.specs.contracts.docs.Doc as docs;
 
@@ -41,24 +41,24 @@ impl Model for Medium {
 
     ghost view = { λ m. record { doc = m.doc.value; history = reverse m.history.items; proposals = proposals_in m.sessions.items } };
 
-    ghost invariant = { λ m. Keeps (document_of m.doc.value) (reverse m.history.items) m.published m.sessions.items (vec_capacity m.history) };
+    ghost invariant = { λ m. IsKept m.doc.value (reverse m.history.items) m.published m.sessions.items (vec_capacity m.history) };
 }
 
 impl Medium {
     ghost use Rattle.sv_core.specs.History.{cut_of, published, answers, answered, moved, moves, site_of, seen_of};
     ghost use Rattle.sv_core.specs.Laws.{IsLawful};
     ghost use Rattle.sv_core.specs.Legal.{IsNext, IsApply, IsListed, IsSession};
-    ghost use Rattle.sv_core.specs.Mediums.{IsNextCall, doc_of, proposal_of, with_proposal, with_entry};
+    ghost use Rattle.sv_core.specs.Mediums.{AreNextCalls, doc_of, proposal_of, with_proposal, with_entry};
     ghost use Rattle.sv_core.specs.MediumState.{IsAwaited, IsPending, IsReply, Publishes, shown, site_in};
     ghost use Rattle.sv_core.specs.Packets.{packets_in};
     ghost use Rattle.sv_core.specs.Room.{lack_of};
     ghost use Rattle.sv_core.specs.Events.{IsGone};
-    ghost use Rattle.sv_core.specs.Sound.{Sound, IsSite};
+    ghost use Rattle.sv_core.specs.Sound.{SoundDoc, IsSite};
     ghost use Rattle.sv_core.specs.declared.docs.Item.TheVariants.{Go};
 
     /// The medium of a sound document, to which nothing has happened. Takes all the space that its events will need.
     pub(crate) fn start(alloc: Global, doc: Arc<Doc>) -> Result<Medium, NoMemory>
-        requires { Sound (document_of doc.value) }
+        requires { SoundDoc doc.value }
         ensures { IfOk result (λ m. m ≡ record { doc = doc.value; history = []; proposals = replicate 64 None }) }
     {
         tell_short_rows(doc.init.items());
@@ -73,9 +73,10 @@ impl Medium {
         })
     }
 
-    /// The document.
+    /// The document. It is sound, with a frugal and right dictionary.
     pub fn doc(&self) -> &Arc<Doc>
-        ensures { result.now.value ≡ self.now.doc }
+        ensures same { result.now.value ≡ self.now.doc }
+        ensures sound { SoundDoc result.now.value }
     {
         &self.doc
     }
@@ -121,12 +122,12 @@ impl Medium {
         self.sessions[session as usize - 1].seen
     }
 
-    /// The index of the session's request whose operation waits for its slot; `None` where none waits. That request is the
-    /// session's next one.
+    /// The index of the session's request whose operation waits for its slot; `None` where none waits. Each
+    /// operation that waits is that of its session's next call.
     pub fn pending(&self, session: u16) -> Option<u32>
         requires { IsSession session }
         ensures index { result ≡ option_map (λ proposal. proposal.index) (proposal_of self.now session) }
-        ensures next { IfSome (proposal_of self.now session) (λ proposal. IsNextCall self.now session proposal) }
+        ensures nexts { AreNextCalls self.now }
     {
         match &self.sessions[session as usize - 1].proposal {
             Some(proposal) => Some(proposal.p.index),

@@ -61,7 +61,7 @@ impl World {
     ghost use Rattle.sv_core.specs.History.{cut_of, published, answered, moved, moves, seen_of, site_of, tables_at};
     ghost use Rattle.sv_core.specs.Laws.{IsLawful};
     ghost use Rattle.sv_core.specs.Legal.{IsListed, IsSession};
-    ghost use Rattle.sv_core.specs.Mediums.{IsNextCall, doc_of, inbox_of, proposal_of, with_history, with_inbox};
+    ghost use Rattle.sv_core.specs.Mediums.{AreNextCalls, doc_of, inbox_of, proposal_of, with_history, with_inbox};
     ghost use Rattle.sv_core.specs.MediumState.{CanCommit};
     ghost use Rattle.sv_core.specs.Packets.{finished};
     ghost use Rattle.sv_core.specs.Sheets.{IsFetch, is_known};
@@ -79,9 +79,10 @@ impl World {
         Ok(World { medium, sites })
     }
 
-    /// The document.
+    /// The document. It is sound, with a frugal and right dictionary.
     pub fn doc(&self) -> &Arc<Doc>
-        ensures { result.now.value ≡ self.now.medium.doc }
+        ensures same { result.now.value ≡ self.now.medium.doc }
+        ensures sound { SoundDoc result.now.value }
     {
         self.medium.doc()
     }
@@ -127,12 +128,12 @@ impl World {
         self.medium.seen(session)
     }
 
-    /// The index of the session's request whose operation waits for its slot; `None` where none waits. That request is the
-    /// session's next one.
+    /// The index of the session's request whose operation waits for its slot; `None` where none waits. Each
+    /// operation that waits is that of its session's next call.
     pub fn pending(&self, session: u16) -> Option<u32>
         requires { IsSession session }
         ensures index { result ≡ option_map (λ proposal. proposal.index) (proposal_of self.now.medium session) }
-        ensures next { IfSome (proposal_of self.now.medium session) (λ proposal. IsNextCall self.now.medium session proposal) }
+        ensures nexts { AreNextCalls self.now.medium }
     {
         self.medium.pending(session)
     }

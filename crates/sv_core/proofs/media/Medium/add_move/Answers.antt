@@ -18,10 +18,10 @@ overflow_add-state c =
     let doc = document_of k.doc.value in
     let h : History = reverse k.history.items in
     let s : IsStateOf doc h k.sessions.items c.args.session c.index_mut-state.result.now =
-    state_of doc h k.published k.sessions.items (vec_capacity k.history) c.args.session c.index_mut-state.result.now c.self.invariant c.requires.session
+    state_of doc h k.published k.sessions.items (vec_capacity k.history) c.args.session c.index_mut-state.result.now c.self.invariant.fields c.requires.session
     c.index_mut-state.ensures.value in
     let room : HasRoom doc h (vec_capacity k.history) c.args.session =
-    room_of doc h (vec_capacity k.history) c.args.session c.self.invariant.lawful c.self.invariant.space in
+    room_of doc h (vec_capacity k.history) c.args.session c.self.invariant.fields.lawful c.self.invariant.fields.space in
     omega (arith, s.is.moved, room.moved)
 
 pub push_reserved-requires : goal.push_reserved-requires
@@ -32,7 +32,7 @@ push_reserved-requires c =
     let next : IsMove doc h c.args.session c.args.site = subst (λ m. IsMove (doc_of m) m.history c.args.session c.args.site) (sym c.self.view_is)
     (record { who = c.requires.session; there = c.requires.site; awaited = c.requires.awaited; listed = c.requires.listed }) in
     let room : length h < vec_capacity k.history =
-    room_for doc (Move c.args.session c.args.site) h k.published k.sessions.items (vec_capacity k.history) c.args.session c.self.invariant next in
+    room_for doc (Move c.args.session c.args.site) h k.published k.sessions.items (vec_capacity k.history) c.args.session c.self.invariant.fields next in
     omega (arith, room, k.history.ok.0, length-reverse k.history.items)
 
 pub invariant_of-self : goal.invariant_of-self
@@ -41,7 +41,7 @@ invariant_of-self c =
     let doc = document_of k.doc.value in
     let h : History = reverse k.history.items in
     let s : IsStateOf doc h k.sessions.items c.args.session c.index_mut-state.result.now =
-    state_of doc h k.published k.sessions.items (vec_capacity k.history) c.args.session c.index_mut-state.result.now c.self.invariant c.requires.session
+    state_of doc h k.published k.sessions.items (vec_capacity k.history) c.args.session c.index_mut-state.result.now c.self.invariant.fields c.requires.session
     c.index_mut-state.ensures.value in
     let next : IsMove doc h c.args.session c.args.site = subst (λ m. IsMove (doc_of m) m.history c.args.session c.args.site) (sym c.self.view_is)
     (record { who = c.requires.session; there = c.requires.site; awaited = c.requires.awaited; listed = c.requires.listed }) in
@@ -52,10 +52,10 @@ invariant_of-self c =
     let follows : Follows doc (Move c.args.session c.args.site) h c.args.session old new =
     record { is = state_moved doc h c.args.session c.args.site old new s.is refl refl refl refl none; shows = refl } in
     let kept : Keeps doc (Move c.args.session c.args.site ∷ h) k.published sessions (vec_capacity k.history) =
-    keeps_moved doc h k.published k.sessions.items (vec_capacity k.history) c.args.session c.args.site old new c.self.invariant next s follows in
-    keeps_pushed doc k.history.items c.push_reserved.new.self.items (Move c.args.session c.args.site) k.published sessions (vec_capacity k.history)
+    keeps_moved doc h k.published k.sessions.items (vec_capacity k.history) c.args.session c.args.site old new c.self.invariant.fields next s follows in
+    record { sound = c.self.invariant.sound; fields = keeps_pushed doc k.history.items c.push_reserved.new.self.items (Move c.args.session c.args.site) k.published sessions (vec_capacity k.history)
     (vec_capacity c.push_reserved.new.self)
-    c.push_reserved.ensures.items c.push_reserved.ensures.capacity kept
+    c.push_reserved.ensures.items c.push_reserved.ensures.capacity kept }
 
 pub returns : goal.returns
 returns c =
@@ -63,7 +63,7 @@ returns c =
     let doc = document_of k.doc.value in
     let h : History = reverse k.history.items in
     let s : IsStateOf doc h k.sessions.items c.args.session c.index_mut-state.result.now =
-    state_of doc h k.published k.sessions.items (vec_capacity k.history) c.args.session c.index_mut-state.result.now c.self.invariant c.requires.session
+    state_of doc h k.published k.sessions.items (vec_capacity k.history) c.args.session c.index_mut-state.result.now c.self.invariant.fields c.requires.session
     c.index_mut-state.ensures.value in
     let old = c.index_mut-state.result.now in
     let new : Session = record { answered = old.answered; moved = old.moved + 1; site = c.args.site; seen = old.seen; proposal = old.proposal } in

@@ -13,7 +13,7 @@ overflow_cast-place c =
     let doc = document_of k.doc.value in
     let h : History = reverse k.history.items in
     let room : HasRoom doc h (vec_capacity k.history) c.args.session =
-    room_of doc h (vec_capacity k.history) c.args.session c.self.invariant.lawful c.self.invariant.space in
+    room_of doc h (vec_capacity k.history) c.args.session c.self.invariant.fields.lawful c.self.invariant.fields.space in
     omega (arith, room.long, c.len-place.ensures, k.history.ok.0, length-reverse k.history.items)
 
 pub returns-in-None : goal.returns-in-None

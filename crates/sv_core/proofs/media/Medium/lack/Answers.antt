@@ -16,8 +16,8 @@ overflow_add-rows c =
     let doc = document_of k.doc.value in
     let h : History = reverse k.history.items in
     let rows : c.len.result + c.inserts.result ≡ rows_used doc (published doc h) =
-    omega (arith, c.len.ensures, ap (λ d. length d.init) c.deref.ensures, c.inserts.ensures, c.self.invariant.ops.inserts) in
-    let room : HasRoom doc h (vec_capacity k.history) 0 = room_of doc h (vec_capacity k.history) 0 c.self.invariant.lawful c.self.invariant.space in
+    omega (arith, c.len.ensures, ap (λ d. length d.init) c.deref.ensures, c.inserts.ensures, c.self.invariant.fields.ops.inserts) in
+    let room : HasRoom doc h (vec_capacity k.history) 0 = room_of doc h (vec_capacity k.history) 0 c.self.invariant.fields.lawful c.self.invariant.fields.space in
     omega (arith, rows, room.rows)
 
 pub overflow_add-rows-2 : goal.overflow_add-rows-2
@@ -26,8 +26,8 @@ overflow_add-rows-2 c =
     let doc = document_of k.doc.value in
     let h : History = reverse k.history.items in
     let rows : c.len.result + c.inserts.result ≡ rows_used doc (published doc h) =
-    omega (arith, c.len.ensures, ap (λ d. length d.init) c.deref.ensures, c.inserts.ensures, c.self.invariant.ops.inserts) in
-    let room : HasRoom doc h (vec_capacity k.history) 0 = room_of doc h (vec_capacity k.history) 0 c.self.invariant.lawful c.self.invariant.space in
+    omega (arith, c.len.ensures, ap (λ d. length d.init) c.deref.ensures, c.inserts.ensures, c.self.invariant.fields.ops.inserts) in
+    let room : HasRoom doc h (vec_capacity k.history) 0 = room_of doc h (vec_capacity k.history) 0 c.self.invariant.fields.lawful c.self.invariant.fields.space in
     omega (arith, rows, room.rows, c.inserts_of.ensures, inserts_few c.args.effects.now, c.requires)
 
 pub returns-then-rows-inserts_of : goal.returns-then-rows-inserts_of
@@ -36,7 +36,7 @@ returns-then-rows-inserts_of c =
     let doc = document_of k.doc.value in
     let h : History = reverse k.history.items in
     let rows : c.len.result + c.inserts.result ≡ rows_used doc (published doc h) =
-    omega (arith, c.len.ensures, ap (λ d. length d.init) c.deref.ensures, c.inserts.ensures, c.self.invariant.ops.inserts) in
+    omega (arith, c.len.ensures, ap (λ d. length d.init) c.deref.ensures, c.inserts.ensures, c.self.invariant.fields.ops.inserts) in
     let more : doc.rows < c.len.result + c.inserts.result + inserts c.args.effects.now =
     omega (arith, c.if-rows-inserts_of.true, c.inserts_of.ensures, ap (λ d. d.rows) c.deref-2.ensures) in
     lacks_rows doc (published doc h) c.args.effects.now (c.len.result + c.inserts.result) rows more
@@ -47,8 +47,8 @@ overflow_add-changes c =
     let k = c.self.inside in
     let doc = document_of k.doc.value in
     let h : History = reverse k.history.items in
-    let changes : c.changes-changes.result ≡ changes_used (published doc h) = c.changes-changes.ensures ∙ c.self.invariant.ops.changes in
-    let room : HasRoom doc h (vec_capacity k.history) 0 = room_of doc h (vec_capacity k.history) 0 c.self.invariant.lawful c.self.invariant.space in
+    let changes : c.changes-changes.result ≡ changes_used (published doc h) = c.changes-changes.ensures ∙ c.self.invariant.fields.ops.changes in
+    let room : HasRoom doc h (vec_capacity k.history) 0 = room_of doc h (vec_capacity k.history) 0 c.self.invariant.fields.lawful c.self.invariant.fields.space in
     omega (arith, changes, room.changes, c.requires)
 
 pub returns-then-changes-effects : goal.returns-then-changes-effects
@@ -57,8 +57,8 @@ returns-then-changes-effects c =
     let doc = document_of k.doc.value in
     let h : History = reverse k.history.items in
     let rows : c.len.result + c.inserts.result ≡ rows_used doc (published doc h) =
-    omega (arith, c.len.ensures, ap (λ d. length d.init) c.deref.ensures, c.inserts.ensures, c.self.invariant.ops.inserts) in
-    let changes : c.changes-changes.result ≡ changes_used (published doc h) = c.changes-changes.ensures ∙ c.self.invariant.ops.changes in
+    omega (arith, c.len.ensures, ap (λ d. length d.init) c.deref.ensures, c.inserts.ensures, c.self.invariant.fields.ops.inserts) in
+    let changes : c.changes-changes.result ≡ changes_used (published doc h) = c.changes-changes.ensures ∙ c.self.invariant.fields.ops.changes in
     let fit : c.len.result + c.inserts.result + inserts c.args.effects.now ≤ doc.rows =
     omega (arith, c.if-rows-inserts_of.false, c.inserts_of.ensures, ap (λ d. d.rows) c.deref-2.ensures) in
     let more : doc.changes < c.changes-changes.result + length c.args.effects.now =
@@ -72,8 +72,8 @@ returns c =
     let doc = document_of k.doc.value in
     let h : History = reverse k.history.items in
     let rows : c.len.result + c.inserts.result ≡ rows_used doc (published doc h) =
-    omega (arith, c.len.ensures, ap (λ d. length d.init) c.deref.ensures, c.inserts.ensures, c.self.invariant.ops.inserts) in
-    let changes : c.changes-changes.result ≡ changes_used (published doc h) = c.changes-changes.ensures ∙ c.self.invariant.ops.changes in
+    omega (arith, c.len.ensures, ap (λ d. length d.init) c.deref.ensures, c.inserts.ensures, c.self.invariant.fields.ops.inserts) in
+    let changes : c.changes-changes.result ≡ changes_used (published doc h) = c.changes-changes.ensures ∙ c.self.invariant.fields.ops.changes in
     let fit : c.len.result + c.inserts.result + inserts c.args.effects.now ≤ doc.rows =
     omega (arith, c.if-rows-inserts_of.false, c.inserts_of.ensures, ap (λ d. d.rows) c.deref-2.ensures) in
     let others : c.changes-changes.result + length c.args.effects.now ≤ doc.changes =

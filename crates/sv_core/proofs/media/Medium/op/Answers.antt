@@ -5,4 +5,4 @@ use Rattle.sv_core.specs.Mediums.{doc_of}
 use Rattle.sv_core.proofs.media.Medium.op.Goals as goal
 
 pub returns-clause-short : goal.returns-clause-short
-returns-clause-short c = subst (λ m. AreShort (doc_of m) (published (doc_of m) m.history)) c.self.view_is c.self.invariant.short
+returns-clause-short c = subst (λ m. AreShort (doc_of m) (published (doc_of m) m.history)) c.self.view_is c.self.invariant.fields.short

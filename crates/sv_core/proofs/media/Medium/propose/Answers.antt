@@ -15,13 +15,13 @@ invariant_of-self c =
     let h : History = reverse k.history.items in
     let old = c.index_mut.result.now in
     let s : IsStateOf doc h k.sessions.items c.args.session old =
-    state_of doc h k.published k.sessions.items (vec_capacity k.history) c.args.session old c.self.invariant c.requires.session c.index_mut.ensures.value in
+    state_of doc h k.published k.sessions.items (vec_capacity k.history) c.args.session old c.self.invariant.fields c.requires.session c.index_mut.ensures.value in
     let new : Session = record { answered = old.answered; moved = old.moved; site = old.site; seen = old.seen; proposal = Some c.args.proposal } in
     let pending : IsPending doc h c.args.session c.args.proposal =
     subst (λ m. IsPending (doc_of m) m.history c.args.session c.args.proposal) (sym c.self.view_is) c.requires.pending in
     let awaited : answers h + how_many_pending (proposals_in k.sessions.items) < doc.asks = subst IsAwaited (sym c.self.view_is) c.requires.awaited in
-    keeps_exchanged doc h k.published k.sessions.items (vec_capacity k.history) c.args.session old new c.self.invariant c.requires.session s
-    (record { answered = refl; moved = refl; site = refl; seen = refl }) pending (omega (arith, awaited))
+    record { sound = c.self.invariant.sound; fields = keeps_exchanged doc h k.published k.sessions.items (vec_capacity k.history) c.args.session old new c.self.invariant.fields c.requires.session s
+    (record { answered = refl; moved = refl; site = refl; seen = refl }) pending (omega (arith, awaited)) }
 
 pub returns : goal.returns
 returns c =

@@ -16,10 +16,10 @@ answer-requires c =
     let doc = document_of k.doc.value in
     let h : History = reverse k.history.items in
     let s : IsStateOf doc h k.sessions.items c.args.session c.index_mut.result.now =
-    state_of doc h k.published k.sessions.items (vec_capacity k.history) c.args.session c.index_mut.result.now c.self.invariant c.requires.session
+    state_of doc h k.published k.sessions.items (vec_capacity k.history) c.args.session c.index_mut.result.now c.self.invariant.fields c.requires.session
     c.index_mut.ensures.value in
     let room : HasRoom doc h (vec_capacity k.history) c.args.session =
-    room_of doc h (vec_capacity k.history) c.args.session c.self.invariant.lawful c.self.invariant.space in
+    room_of doc h (vec_capacity k.history) c.args.session c.self.invariant.fields.lawful c.self.invariant.fields.space in
     omega (arith, s.is.answered, room.answered)
 
 pub push_reserved-requires : goal.push_reserved-requires
@@ -31,7 +31,7 @@ push_reserved-requires c =
     subst (λ m. IsAsked m c.args.session c.args.cut.now c.args.entry) (sym c.self.view_is)
     (record { who = c.requires.session; none = c.requires.none; awaited = c.requires.awaited; next = c.requires.next; cut_is = c.requires.cut }) in
     let room : length h < vec_capacity k.history =
-    room_for doc c.args.entry h k.published k.sessions.items (vec_capacity k.history) c.args.session c.self.invariant asked.next in
+    room_for doc c.args.entry h k.published k.sessions.items (vec_capacity k.history) c.args.session c.self.invariant.fields asked.next in
     omega (arith, room, k.history.ok.0, length-reverse k.history.items)
 
 pub invariant_of-self : goal.invariant_of-self
@@ -40,7 +40,7 @@ invariant_of-self c =
     let doc = document_of k.doc.value in
     let h : History = reverse k.history.items in
     let s : IsStateOf doc h k.sessions.items c.args.session c.index_mut.result.now =
-    state_of doc h k.published k.sessions.items (vec_capacity k.history) c.args.session c.index_mut.result.now c.self.invariant c.requires.session
+    state_of doc h k.published k.sessions.items (vec_capacity k.history) c.args.session c.index_mut.result.now c.self.invariant.fields c.requires.session
     c.index_mut.ensures.value in
     let asked : IsAsked (view_of k.doc.value k.history.items k.sessions.items) c.args.session c.args.cut.now c.args.entry =
     subst (λ m. IsAsked m c.args.session c.args.cut.now c.args.entry) (sym c.self.view_is)
@@ -48,18 +48,18 @@ invariant_of-self c =
     let news : IsNews doc h c.args.session c.args.packet.now c.args.op c.args.entry =
     is_news doc h c.args.session c.args.packet.now c.args.op c.args.entry asked.next
     (subst (λ m. Publishes (doc_of m) m.history c.args.session c.args.packet.now c.args.op c.args.entry) (sym c.self.view_is) c.requires.news) in
-    let lawful : IsLawful doc (c.args.entry ∷ h) = record { sound = c.self.invariant.lawful.sound; legal = (asked.next, c.self.invariant.lawful.legal) } in
+    let lawful : IsLawful doc (c.args.entry ∷ h) = record { sound = c.self.invariant.fields.lawful.sound; legal = (asked.next, c.self.invariant.fields.lawful.legal) } in
     let place : HasPlace k.published c.args.op =
-    has_place doc c.args.entry h c.args.session k.published c.args.packet.now c.args.op c.self.invariant.ops lawful news
+    has_place doc c.args.entry h c.args.session k.published c.args.packet.now c.args.op c.self.invariant.fields.ops lawful news
     (omega (arith, asked.awaited)) in
     let new_k = with_op k.published c.args.packet.now c.args.op in
     let gives : Answers doc c.args.entry h c.args.session new_k =
-    publishes_op doc c.args.entry h c.args.session k.published c.args.packet.now c.args.op c.self.invariant.ops c.self.invariant.short news
+    publishes_op doc c.args.entry h c.args.session k.published c.args.packet.now c.args.op c.self.invariant.fields.ops c.self.invariant.fields.short news
     c.publish.ensures.named place.room c.requires.short in
     let sessions = set k.sessions.items (c.args.session - 1) c.answer.new.self in
     let kept : Keeps doc (c.args.entry ∷ h) new_k sessions (vec_capacity k.history) =
     answer_kept k.doc.value k.history.items k.published new_k k.sessions.items (vec_capacity k.history) c.args.session c.args.cut.now c.args.entry
-    c.index_mut.result.now c.answer.new.self c.self.invariant asked gives s
+    c.index_mut.result.now c.answer.new.self c.self.invariant.fields asked gives s
     (record {
       answered = c.answer.ensures.answered;
       seen = c.answer.ensures.seen;
@@ -67,10 +67,10 @@ invariant_of-self c =
       site = c.answer.ensures.site;
       proposal = c.answer.ensures.proposal;
     }) in
-    subst (λ p. Keeps doc (reverse c.push_reserved.new.self.items) p sessions (vec_capacity c.push_reserved.new.self)) (sym c.publish.ensures.op)
+    record { sound = c.self.invariant.sound; fields = subst (λ p. Keeps doc (reverse c.push_reserved.new.self.items) p sessions (vec_capacity c.push_reserved.new.self)) (sym c.publish.ensures.op)
     (keeps_pushed doc k.history.items c.push_reserved.new.self.items c.args.entry new_k sessions (vec_capacity k.history)
     (vec_capacity c.push_reserved.new.self)
-    c.push_reserved.ensures.items c.push_reserved.ensures.capacity kept)
+    c.push_reserved.ensures.items c.push_reserved.ensures.capacity kept) }
 
 pub returns : goal.returns
 returns c =
@@ -78,7 +78,7 @@ returns c =
     let doc = document_of k.doc.value in
     let h : History = reverse k.history.items in
     let s : IsStateOf doc h k.sessions.items c.args.session c.index_mut.result.now =
-    state_of doc h k.published k.sessions.items (vec_capacity k.history) c.args.session c.index_mut.result.now c.self.invariant c.requires.session
+    state_of doc h k.published k.sessions.items (vec_capacity k.history) c.args.session c.index_mut.result.now c.self.invariant.fields c.requires.session
     c.index_mut.ensures.value in
     view_pushed c.args.self.now k.doc.value k.history.items c.push_reserved.new.self.items k.sessions.items
     (set k.sessions.items (c.args.session - 1) c.answer.new.self) c.args.entry c.self.view_is
@@ -96,8 +96,8 @@ publish-requires c =
     let news : IsNews doc h c.args.session c.args.packet.now c.args.op c.args.entry =
     is_news doc h c.args.session c.args.packet.now c.args.op c.args.entry asked.next
     (subst (λ m. Publishes (doc_of m) m.history c.args.session c.args.packet.now c.args.op c.args.entry) (sym c.self.view_is) c.requires.news) in
-    let lawful : IsLawful doc (c.args.entry ∷ h) = record { sound = c.self.invariant.lawful.sound; legal = (asked.next, c.self.invariant.lawful.legal) } in
+    let lawful : IsLawful doc (c.args.entry ∷ h) = record { sound = c.self.invariant.fields.lawful.sound; legal = (asked.next, c.self.invariant.fields.lawful.legal) } in
     let place : HasPlace k.published c.args.op =
-    has_place doc c.args.entry h c.args.session k.published c.args.packet.now c.args.op c.self.invariant.ops lawful news
+    has_place doc c.args.entry h c.args.session k.published c.args.packet.now c.args.op c.self.invariant.fields.ops lawful news
     (omega (arith, asked.awaited)) in
     record { room = place.room; few = place.few; inserts = place.inserts; changes = place.changes }

@@ -13,10 +13,10 @@ answer-requires c =
     let doc = document_of k.doc.value in
     let h : History = reverse k.history.items in
     let s : IsStateOf doc h k.sessions.items c.args.session c.index_mut.result.now =
-    state_of doc h k.published k.sessions.items (vec_capacity k.history) c.args.session c.index_mut.result.now c.self.invariant c.requires.session
+    state_of doc h k.published k.sessions.items (vec_capacity k.history) c.args.session c.index_mut.result.now c.self.invariant.fields c.requires.session
     c.index_mut.ensures.value in
     let room : HasRoom doc h (vec_capacity k.history) c.args.session =
-    room_of doc h (vec_capacity k.history) c.args.session c.self.invariant.lawful c.self.invariant.space in
+    room_of doc h (vec_capacity k.history) c.args.session c.self.invariant.fields.lawful c.self.invariant.fields.space in
     omega (arith, s.is.answered, room.answered)
 
 pub push_reserved-requires : goal.push_reserved-requires
@@ -28,7 +28,7 @@ push_reserved-requires c =
     subst (λ m. IsAsked m c.args.session c.args.cut.now c.args.entry) (sym c.self.view_is)
     (record { who = c.requires.session; none = c.requires.none; awaited = c.requires.awaited; next = c.requires.next; cut_is = c.requires.cut }) in
     let room : length h < vec_capacity k.history =
-    room_for doc c.args.entry h k.published k.sessions.items (vec_capacity k.history) c.args.session c.self.invariant asked.next in
+    room_for doc c.args.entry h k.published k.sessions.items (vec_capacity k.history) c.args.session c.self.invariant.fields asked.next in
     omega (arith, room, k.history.ok.0, length-reverse k.history.items)
 
 pub invariant_of-self : goal.invariant_of-self
@@ -37,17 +37,17 @@ invariant_of-self c =
     let doc = document_of k.doc.value in
     let h : History = reverse k.history.items in
     let s : IsStateOf doc h k.sessions.items c.args.session c.index_mut.result.now =
-    state_of doc h k.published k.sessions.items (vec_capacity k.history) c.args.session c.index_mut.result.now c.self.invariant c.requires.session
+    state_of doc h k.published k.sessions.items (vec_capacity k.history) c.args.session c.index_mut.result.now c.self.invariant.fields c.requires.session
     c.index_mut.ensures.value in
     let asked : IsAsked (view_of k.doc.value k.history.items k.sessions.items) c.args.session c.args.cut.now c.args.entry =
     subst (λ m. IsAsked m c.args.session c.args.cut.now c.args.entry) (sym c.self.view_is)
     (record { who = c.requires.session; none = c.requires.none; awaited = c.requires.awaited; next = c.requires.next; cut_is = c.requires.cut }) in
     let gives : Answers doc c.args.entry h c.args.session k.published =
-    replies doc c.args.entry h c.args.session k.published c.self.invariant.ops c.self.invariant.short c.requires.reply in
+    replies doc c.args.entry h c.args.session k.published c.self.invariant.fields.ops c.self.invariant.fields.short c.requires.reply in
     let sessions = set k.sessions.items (c.args.session - 1) c.answer.new.self in
     let kept : Keeps doc (c.args.entry ∷ h) k.published sessions (vec_capacity k.history) =
     answer_kept k.doc.value k.history.items k.published k.published k.sessions.items (vec_capacity k.history) c.args.session c.args.cut.now c.args.entry
-    c.index_mut.result.now c.answer.new.self c.self.invariant asked gives s
+    c.index_mut.result.now c.answer.new.self c.self.invariant.fields asked gives s
     (record {
       answered = c.answer.ensures.answered;
       seen = c.answer.ensures.seen;
@@ -55,9 +55,9 @@ invariant_of-self c =
       site = c.answer.ensures.site;
       proposal = c.answer.ensures.proposal;
     }) in
-    keeps_pushed doc k.history.items c.push_reserved.new.self.items c.args.entry k.published sessions (vec_capacity k.history)
+    record { sound = c.self.invariant.sound; fields = keeps_pushed doc k.history.items c.push_reserved.new.self.items c.args.entry k.published sessions (vec_capacity k.history)
     (vec_capacity c.push_reserved.new.self)
-    c.push_reserved.ensures.items c.push_reserved.ensures.capacity kept
+    c.push_reserved.ensures.items c.push_reserved.ensures.capacity kept }
 
 pub returns : goal.returns
 returns c =
@@ -65,7 +65,7 @@ returns c =
     let doc = document_of k.doc.value in
     let h : History = reverse k.history.items in
     let s : IsStateOf doc h k.sessions.items c.args.session c.index_mut.result.now =
-    state_of doc h k.published k.sessions.items (vec_capacity k.history) c.args.session c.index_mut.result.now c.self.invariant c.requires.session
+    state_of doc h k.published k.sessions.items (vec_capacity k.history) c.args.session c.index_mut.result.now c.self.invariant.fields c.requires.session
     c.index_mut.ensures.value in
     view_pushed c.args.self.now k.doc.value k.history.items c.push_reserved.new.self.items k.sessions.items
     (set k.sessions.items (c.args.session - 1) c.answer.new.self) c.args.entry c.self.view_is

@@ -13,7 +13,7 @@ returns-clause-site c =
     let k = c.self.inside in
     let s : IsStateOf (document_of k.doc.value) (reverse k.history.items) k.sessions.items c.args.session c.index.result.now =
     state_of (document_of k.doc.value) (reverse k.history.items) k.published k.sessions.items (vec_capacity k.history) c.args.session c.index.result.now
-    c.self.invariant c.requires c.index.ensures in
+    c.self.invariant.fields c.requires c.index.ensures in
     s.is.site ∙ ap (λ m. site_of (doc_of m) m.history c.args.session) c.self.view_is
 
 pub returns-clause-there : goal.returns-clause-there
@@ -21,8 +21,8 @@ returns-clause-there c =
     let k = c.self.inside in
     let s : IsStateOf (document_of k.doc.value) (reverse k.history.items) k.sessions.items c.args.session c.index.result.now =
     state_of (document_of k.doc.value) (reverse k.history.items) k.published k.sessions.items (vec_capacity k.history) c.args.session c.index.result.now
-    c.self.invariant c.requires c.index.ensures in
+    c.self.invariant.fields c.requires c.index.ensures in
     let doc = document_of k.doc.value in
-    let lawful = c.self.invariant.lawful in
+    let lawful = c.self.invariant.fields.lawful in
     subst (λ m. IsSite (doc_of m) c.index.result.now.site) c.self.view_is
     (subst (IsSite doc) (sym s.is.site) (site_there doc (reverse k.history.items) lawful.sound.some lawful.legal c.args.session))

@@ -17,13 +17,13 @@ invariant_of-self c =
     let h : History = reverse k.history.items in
     let old = c.index_mut.result.now in
     let s : IsStateOf doc h k.sessions.items c.args.session old =
-    state_of doc h k.published k.sessions.items (vec_capacity k.history) c.args.session old c.self.invariant c.requires c.index_mut.ensures.value in
+    state_of doc h k.published k.sessions.items (vec_capacity k.history) c.args.session old c.self.invariant.fields c.requires c.index_mut.ensures.value in
     let new : Session = record { answered = old.answered; moved = old.moved; site = old.site; seen = old.seen; proposal = c.take.new.self } in
     let gone : one_if (shown c.take.new.self) ≡ 0 = ap (λ p. one_if (shown p)) c.take.ensures.after in
     let nothing : IfSome c.take.new.self (IsPending doc h c.args.session) =
     subst (λ p. IfSome p (IsPending doc h c.args.session)) (sym c.take.ensures.after) tt in
-    keeps_exchanged doc h k.published k.sessions.items (vec_capacity k.history) c.args.session old new c.self.invariant c.requires s
-    (record { answered = refl; moved = refl; site = refl; seen = refl }) nothing (omega (arith, gone, c.self.invariant.awaited))
+    record { sound = c.self.invariant.sound; fields = keeps_exchanged doc h k.published k.sessions.items (vec_capacity k.history) c.args.session old new c.self.invariant.fields c.requires s
+    (record { answered = refl; moved = refl; site = refl; seen = refl }) nothing (omega (arith, gone, c.self.invariant.fields.awaited)) }
 
 pub returns-clause-pending : goal.returns-clause-pending
 returns-clause-pending c =
@@ -32,7 +32,7 @@ returns-clause-pending c =
     let h : History = reverse k.history.items in
     let old = c.index_mut.result.now in
     let s : IsStateOf doc h k.sessions.items c.args.session old =
-    state_of doc h k.published k.sessions.items (vec_capacity k.history) c.args.session old c.self.invariant c.requires c.index_mut.ensures.value in
+    state_of doc h k.published k.sessions.items (vec_capacity k.history) c.args.session old c.self.invariant.fields c.requires c.index_mut.ensures.value in
     subst (λ m. IfSome c.take.result (λ proposal. IsPending (doc_of m) m.history c.args.session proposal)) c.self.view_is
     (subst (λ p. IfSome p (λ proposal. IsPending doc h c.args.session proposal)) (sym c.take.ensures.value) s.is.proposal)
 
@@ -43,7 +43,7 @@ returns-clause-awaited c =
     let h : History = reverse k.history.items in
     let old = c.index_mut.result.now in
     let s : IsStateOf doc h k.sessions.items c.args.session old =
-    state_of doc h k.published k.sessions.items (vec_capacity k.history) c.args.session old c.self.invariant c.requires c.index_mut.ensures.value in
+    state_of doc h k.published k.sessions.items (vec_capacity k.history) c.args.session old c.self.invariant.fields c.requires c.index_mut.ensures.value in
     let new : Session = record { answered = old.answered; moved = old.moved; site = old.site; seen = old.seen; proposal = c.take.new.self } in
     let gone : one_if (shown c.take.new.self) ≡ 0 = ap (λ p. one_if (shown p)) c.take.ensures.after in
     let was : one_if (shown c.take.result) ≡ one_if (shown old.proposal) = ap (λ p. one_if (shown p)) c.take.ensures.value in
@@ -54,7 +54,7 @@ returns-clause-awaited c =
     ≡ how_many_pending (set (proposals_in k.sessions.items) (c.args.session - 1) (shown c.take.new.self)) =
     ap how_many_pending (map-set (λ x. shown x.proposal) k.sessions.items (c.args.session - 1) new) in
     awaited_again c.take.result (answers h + how_many_pending (proposals_in (set k.sessions.items (c.args.session - 1) new))) doc.asks
-    (omega (arith, gone, was, count, left, c.self.invariant.awaited))
+    (omega (arith, gone, was, count, left, c.self.invariant.fields.awaited))
 
 pub returns-clause-gone : goal.returns-clause-gone
 returns-clause-gone c =
