@@ -14,6 +14,7 @@ pub mod GiveLaws
 pub mod GrowLaws
 pub mod HistoryLaws
 pub mod HoldLaws
+pub mod ItemLaws
 pub mod JudgedLaws
 pub mod KeepLaws
 pub mod ListLaws

@@ -7,7 +7,7 @@ use Rattle.sv_core.proofs.HistoryLaws.{asked_there}
 use Rattle.sv_plain.specs.Held.{medium_of}
 use Rattle.sv_legal.specs.Before.{doc_of, past_of}
 use Rattle.sv_legal.proofs.FindingLaws.{prepared_is}
-use Rattle.sv_legal.proofs.ListedLaws.{listed_at}
+use Rattle.sv_core.proofs.ItemLaws.{listed_at}
 use Rattle.sv_legal.proofs.ToldLaws.{are_narrow, few_changes, rows_then, stand_then, tables_are, valid_then}
 use Rattle.sv_legal.proofs.befores.Before.prepared.Goals as goal
 
