@@ -27,6 +27,7 @@ pub mod PublicationLaws
 pub mod RoomLaws
 pub mod SafeLaws
 pub mod SameLaws
+pub mod SendLaws
 pub mod SessionLaws
 pub mod SheetLaws
 pub mod SiteLaws
