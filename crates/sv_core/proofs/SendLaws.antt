@@ -65,24 +65,64 @@ doc_sync = declared_sync Doc.the_type
     (app_sync, (dictionary.the_sync, (init_sync, (search sendable, (search sendable, (search sendable, (items_sync, (search sendable, (search sendable, tt)))))))))
 
 pub site_state_send : IsSend SiteState.the_row
-site_state_send = declared_send SiteState.the_type
-    (heap.Arc-send Doc.the_row doc_send doc_sync, (site.the_send, (pool.the_send, (cut.the_send, (heap.Vec-send Packet.the_row packet.the_send,
-    (search sendable, (inbox.the_send, (search sendable, tt))))))))
+site_state_send = declared_send SiteState.the_type (
+  heap.Arc-send Doc.the_row doc_send doc_sync,
+  (
+    site.the_send,
+    (
+      pool.the_send,
+      (
+        cut.the_send,
+        (
+          heap.Vec-send Packet.the_row packet.the_send,
+          (search sendable, (inbox.the_send, (search sendable, tt))),
+        ),
+      ),
+    ),
+  ),
+)
 
 pub site_state_sync : IsSync SiteState.the_row
-site_state_sync = declared_sync SiteState.the_type
-    (heap.Arc-sync Doc.the_row doc_send doc_sync, (site.the_sync, (pool.the_sync, (cut.the_sync, (heap.Vec-sync Packet.the_row packet.the_sync,
-    (search sendable, (inbox.the_sync, (search sendable, tt))))))))
+site_state_sync = declared_sync SiteState.the_type (
+  heap.Arc-sync Doc.the_row doc_send doc_sync,
+  (
+    site.the_sync,
+    (
+      pool.the_sync,
+      (
+        cut.the_sync,
+        (
+          heap.Vec-sync Packet.the_row packet.the_sync,
+          (search sendable, (inbox.the_sync, (search sendable, tt))),
+        ),
+      ),
+    ),
+  ),
+)
 
 medium_inside_send : IsSend medium_inside.the_row
-medium_inside_send = declared_send medium_inside.the_type
-    (heap.Arc-send Doc.the_row doc_send doc_sync, (heap.Vec-send Entry.the_row entry.the_send, (publications.the_send,
-    (heap.Vec-send Session.the_row session.the_send, tt))))
+medium_inside_send = declared_send medium_inside.the_type (
+  heap.Arc-send Doc.the_row doc_send doc_sync,
+  (
+    heap.Vec-send Entry.the_row entry.the_send,
+    (
+      publications.the_send,
+      (heap.Vec-send Session.the_row session.the_send, tt),
+    ),
+  ),
+)
 
 medium_inside_sync : IsSync medium_inside.the_row
-medium_inside_sync = declared_sync medium_inside.the_type
-    (heap.Arc-sync Doc.the_row doc_send doc_sync, (heap.Vec-sync Entry.the_row entry.the_sync, (publications.the_sync,
-    (heap.Vec-sync Session.the_row session.the_sync, tt))))
+medium_inside_sync = declared_sync medium_inside.the_type (
+  heap.Arc-sync Doc.the_row doc_send doc_sync,
+  (
+    heap.Vec-sync Entry.the_row entry.the_sync,
+    (
+      publications.the_sync,
+      (heap.Vec-sync Session.the_row session.the_sync, tt),
+    ),
+  ),
+)
 
 pub medium_send : IsSend Medium.the_row
 medium_send = search (medium_inside_send, sendable)
@@ -102,5 +142,20 @@ world_send = search (world_inside_send, sendable)
 pub world_sync : IsSync World.the_row
 world_sync = search (world_inside_sync, sendable)
 
-pub ruleset crossing = (app_send, app_sync, doc_send, doc_sync, site_state_send, site_state_sync, medium_send, medium_sync, world_send, world_sync,
-  hub.the_send, hub.the_sync, pass.the_send, heap.crosses, sendable)
+pub ruleset crossing = (
+  app_send,
+  app_sync,
+  doc_send,
+  doc_sync,
+  site_state_send,
+  site_state_sync,
+  medium_send,
+  medium_sync,
+  world_send,
+  world_sync,
+  hub.the_send,
+  hub.the_sync,
+  pass.the_send,
+  heap.crosses,
+  sendable,
+)

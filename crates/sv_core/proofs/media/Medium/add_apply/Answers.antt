@@ -29,6 +29,9 @@ invariant_of-self c =
     let apply : IsApply doc h c.args.site c.args.packet = subst (λ m. IsApply (doc_of m) m.history c.args.site c.args.packet) (sym c.self.view_is) c.requires in
     let kept : Keeps doc (Apply c.args.site c.args.packet ∷ h) k.published k.sessions.items (vec_capacity k.history) =
     keeps_applied doc h k.published k.sessions.items (vec_capacity k.history) c.args.site c.args.packet c.self.invariant.fields apply in
-    record { sound = c.self.invariant.sound; fields = subst (λ g. Keeps doc g k.published k.sessions.items (vec_capacity c.push_reserved.new.self))
-    (sym (ap reverse c.push_reserved.ensures.items ∙ reverse_push k.history.items (Apply c.args.site c.args.packet)))
-    (subst (λ n. Keeps doc (Apply c.args.site c.args.packet ∷ h) k.published k.sessions.items n) (sym c.push_reserved.ensures.capacity) kept) }
+    record {
+      sound = c.self.invariant.sound;
+      fields = subst (λ g. Keeps doc g k.published k.sessions.items (vec_capacity c.push_reserved.new.self))
+          (sym (ap reverse c.push_reserved.ensures.items ∙ reverse_push k.history.items (Apply c.args.site c.args.packet)))
+          (subst (λ n. Keeps doc (Apply c.args.site c.args.packet ∷ h) k.published k.sessions.items n) (sym c.push_reserved.ensures.capacity) kept);
+    }

@@ -53,9 +53,12 @@ invariant_of-self c =
     record { is = state_moved doc h c.args.session c.args.site old new s.is refl refl refl refl none; shows = refl } in
     let kept : Keeps doc (Move c.args.session c.args.site ∷ h) k.published sessions (vec_capacity k.history) =
     keeps_moved doc h k.published k.sessions.items (vec_capacity k.history) c.args.session c.args.site old new c.self.invariant.fields next s follows in
-    record { sound = c.self.invariant.sound; fields = keeps_pushed doc k.history.items c.push_reserved.new.self.items (Move c.args.session c.args.site) k.published sessions (vec_capacity k.history)
-    (vec_capacity c.push_reserved.new.self)
-    c.push_reserved.ensures.items c.push_reserved.ensures.capacity kept }
+    record {
+      sound = c.self.invariant.sound;
+      fields = keeps_pushed doc k.history.items c.push_reserved.new.self.items (Move c.args.session c.args.site) k.published sessions (vec_capacity k.history)
+          (vec_capacity c.push_reserved.new.self)
+          c.push_reserved.ensures.items c.push_reserved.ensures.capacity kept;
+    }
 
 pub returns : goal.returns
 returns c =

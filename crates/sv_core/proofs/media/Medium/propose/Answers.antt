@@ -20,8 +20,11 @@ invariant_of-self c =
     let pending : IsPending doc h c.args.session c.args.proposal =
     subst (λ m. IsPending (doc_of m) m.history c.args.session c.args.proposal) (sym c.self.view_is) c.requires.pending in
     let awaited : answers h + how_many_pending (proposals_in k.sessions.items) < doc.asks = subst IsAwaited (sym c.self.view_is) c.requires.awaited in
-    record { sound = c.self.invariant.sound; fields = keeps_exchanged doc h k.published k.sessions.items (vec_capacity k.history) c.args.session old new c.self.invariant.fields c.requires.session s
-    (record { answered = refl; moved = refl; site = refl; seen = refl }) pending (omega (arith, awaited)) }
+    record {
+      sound = c.self.invariant.sound;
+      fields = keeps_exchanged doc h k.published k.sessions.items (vec_capacity k.history) c.args.session old new c.self.invariant.fields c.requires.session s
+          (record { answered = refl; moved = refl; site = refl; seen = refl }) pending (omega (arith, awaited));
+    }
 
 pub returns : goal.returns
 returns c =

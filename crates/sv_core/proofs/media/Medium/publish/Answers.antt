@@ -67,10 +67,13 @@ invariant_of-self c =
       site = c.answer.ensures.site;
       proposal = c.answer.ensures.proposal;
     }) in
-    record { sound = c.self.invariant.sound; fields = subst (λ p. Keeps doc (reverse c.push_reserved.new.self.items) p sessions (vec_capacity c.push_reserved.new.self)) (sym c.publish.ensures.op)
-    (keeps_pushed doc k.history.items c.push_reserved.new.self.items c.args.entry new_k sessions (vec_capacity k.history)
-    (vec_capacity c.push_reserved.new.self)
-    c.push_reserved.ensures.items c.push_reserved.ensures.capacity kept) }
+    record {
+      sound = c.self.invariant.sound;
+      fields = subst (λ p. Keeps doc (reverse c.push_reserved.new.self.items) p sessions (vec_capacity c.push_reserved.new.self)) (sym c.publish.ensures.op)
+          (keeps_pushed doc k.history.items c.push_reserved.new.self.items c.args.entry new_k sessions (vec_capacity k.history)
+          (vec_capacity c.push_reserved.new.self)
+          c.push_reserved.ensures.items c.push_reserved.ensures.capacity kept);
+    }
 
 pub returns : goal.returns
 returns c =

@@ -55,9 +55,12 @@ invariant_of-self c =
       site = c.answer.ensures.site;
       proposal = c.answer.ensures.proposal;
     }) in
-    record { sound = c.self.invariant.sound; fields = keeps_pushed doc k.history.items c.push_reserved.new.self.items c.args.entry k.published sessions (vec_capacity k.history)
-    (vec_capacity c.push_reserved.new.self)
-    c.push_reserved.ensures.items c.push_reserved.ensures.capacity kept }
+    record {
+      sound = c.self.invariant.sound;
+      fields = keeps_pushed doc k.history.items c.push_reserved.new.self.items c.args.entry k.published sessions (vec_capacity k.history)
+          (vec_capacity c.push_reserved.new.self)
+          c.push_reserved.ensures.items c.push_reserved.ensures.capacity kept;
+    }
 
 pub returns : goal.returns
 returns c =

@@ -15,9 +15,12 @@ invariant_of-result c =
     subst (λ d. AreFreshSessions (document_of d) 64 c.in_ok-sessions.sessions.items) c.deref-5.ensures c.in_ok-sessions.ensures in
     let space : 9 * doc.asks + doc.moves ≤ vec_capacity c.in_ok-history.history =
     omega (arith, c.in_ok-history.ensures.exact, ap (λ d. d.asks) c.deref-2.ensures, ap (λ d. d.moves) c.deref-3.ensures) in
-    record { sound = c.requires; fields = subst (λ h. Keeps doc h c.in_ok-published.published c.in_ok-sessions.sessions.items (vec_capacity c.in_ok-history.history))
-    (sym (ap reverse c.in_ok-history.ensures.items))
-    (keeps_start doc c.in_ok-published.published c.in_ok-sessions.sessions.items (vec_capacity c.in_ok-history.history) c.requires.document short none fresh space) }
+    record {
+      sound = c.requires;
+      fields = subst (λ h. Keeps doc h c.in_ok-published.published c.in_ok-sessions.sessions.items (vec_capacity c.in_ok-history.history))
+          (sym (ap reverse c.in_ok-history.ensures.items))
+          (keeps_start doc c.in_ok-published.published c.in_ok-sessions.sessions.items (vec_capacity c.in_ok-history.history) c.requires.document short none fresh space);
+    }
 
 pub returns : goal.returns
 returns c =

@@ -22,8 +22,11 @@ invariant_of-self c =
     let gone : one_if (shown c.take.new.self) ≡ 0 = ap (λ p. one_if (shown p)) c.take.ensures.after in
     let nothing : IfSome c.take.new.self (IsPending doc h c.args.session) =
     subst (λ p. IfSome p (IsPending doc h c.args.session)) (sym c.take.ensures.after) tt in
-    record { sound = c.self.invariant.sound; fields = keeps_exchanged doc h k.published k.sessions.items (vec_capacity k.history) c.args.session old new c.self.invariant.fields c.requires s
-    (record { answered = refl; moved = refl; site = refl; seen = refl }) nothing (omega (arith, gone, c.self.invariant.fields.awaited)) }
+    record {
+      sound = c.self.invariant.sound;
+      fields = keeps_exchanged doc h k.published k.sessions.items (vec_capacity k.history) c.args.session old new c.self.invariant.fields c.requires s
+          (record { answered = refl; moved = refl; site = refl; seen = refl }) nothing (omega (arith, gone, c.self.invariant.fields.awaited));
+    }
 
 pub returns-clause-pending : goal.returns-clause-pending
 returns-clause-pending c =
