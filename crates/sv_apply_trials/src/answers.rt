@@ -55,38 +55,24 @@ ask 1 put(1, 7);
 const ITEM: u16 = 0;
 const LINE: u16 = 1;
 
-/// What a list of the trial's initial rows answers after the operations.
-fn told_by_list(
+/// What a list and a region of the trial's initial rows answer after the operations.
+fn told_by_both(
     alloc: Global,
     trial: &Trial,
     ops: &[Op],
     asks: &[Ask],
-) -> Result<List<Told>, Trouble>
+) -> Result<(List<Told>, List<Told>), Trouble>
     requires tables { AcceptedSchema (schema_of trial.now.app.tables.items) }
     requires rows { CanStand (schema_of trial.now.app.tables.items) trial.now.init }
     requires can { CanApplyAll (schema_of trial.now.app.tables.items) ops.now (start (schema_of trial.now.app.tables.items) trial.now.init) }
     requires room { inserts_in ops.now ≤ 64 }
 {
-    let mut rows = listed(alloc, &trial.app, trial.init.items())?;
-    let told = apply_all(alloc, &trial.app, &mut rows, ops, asks)?;
-    Ok(told)
-}
-
-/// What a region of the trial's initial rows answers after the operations.
-fn told_by_pool(
-    alloc: Global,
-    trial: &Trial,
-    ops: &[Op],
-    asks: &[Ask],
-) -> Result<List<Told>, Trouble>
-    requires tables { AcceptedSchema (schema_of trial.now.app.tables.items) }
-    requires rows { CanStand (schema_of trial.now.app.tables.items) trial.now.init }
-    requires can { CanApplyAll (schema_of trial.now.app.tables.items) ops.now (start (schema_of trial.now.app.tables.items) trial.now.init) }
-    requires room { inserts_in ops.now ≤ 64 }
-{
-    let mut rows = pooled(alloc, &trial.app, trial.init.items())?;
-    let told = apply_all(alloc, &trial.app, &mut rows, ops, asks)?;
-    Ok(told)
+    let Trial { app, init, .. } = trial;
+    let mut list = listed(alloc, app, init.items())?;
+    let by_list = apply_all(alloc, app, &mut list, ops, asks)?;
+    let mut pool = pooled(alloc, app, init.items())?;
+    let by_pool = apply_all(alloc, app, &mut pool, ops, asks)?;
+    Ok((by_list, by_pool))
 }
 
 /// What both answer of the text's initial rows.
@@ -96,9 +82,7 @@ fn told_at_first(
     asks: &[Ask],
 ) -> Result<(List<Told>, List<Told>), Trouble> {
     let trial = trial_of(alloc, text)?;
-    let by_list = told_by_list(alloc, &trial, &[], asks)?;
-    let by_pool = told_by_pool(alloc, &trial, &[], asks)?;
-    Ok((by_list, by_pool))
+    told_by_both(alloc, &trial, &[], asks)
 }
 
 /// What both answer after the operation of the text's call.
@@ -110,9 +94,7 @@ fn told_after_call(
 ) -> Result<(List<Told>, List<Told>), Trouble> {
     let trial = trial_of(alloc, text)?;
     let ops = [operation(alloc, &trial)?];
-    let by_list = told_by_list(alloc, &trial, &ops, asks)?;
-    let by_pool = told_by_pool(alloc, &trial, &ops, asks)?;
-    Ok((by_list, by_pool))
+    told_by_both(alloc, &trial, &ops, asks)
 }
 
 fn key(number: i64) -> Key {
@@ -171,8 +153,8 @@ fn both_tell_the_initial_row(rt: HostRuntime) -> Result<(), Fail> {
     }];
     let (by_list, by_pool) = told_at_first(rt.alloc(), RESTOCK, &asks)?;
     let wanted = [item(7, 10, 3)];
-    assert_eq!(rt; by_list.items(), &wanted);
-    assert_eq!(rt; by_pool.items(), &wanted);
+    assert_eq!(rt; by_list.items(), wanted.as_slice());
+    assert_eq!(rt; by_pool.items(), wanted.as_slice());
     Ok(())
 }
 
@@ -203,8 +185,8 @@ fn both_tell_what_an_update_leaves(rt: HostRuntime) -> Result<(), Fail> {
         Told::Next(Some(key(7))),
         Told::Next(None),
     ];
-    assert_eq!(rt; by_list.items(), &wanted);
-    assert_eq!(rt; by_pool.items(), &wanted);
+    assert_eq!(rt; by_list.items(), wanted.as_slice());
+    assert_eq!(rt; by_pool.items(), wanted.as_slice());
     Ok(())
 }
 
@@ -226,8 +208,8 @@ fn both_tell_what_an_insert_leaves(rt: HostRuntime) -> Result<(), Fail> {
     ];
     let (by_list, by_pool) = told_after_call(rt.alloc(), ADD, &asks)?;
     let wanted = [item(9, 4, 5), item(7, 10, 3), Told::Next(Some(key(9)))];
-    assert_eq!(rt; by_list.items(), &wanted);
-    assert_eq!(rt; by_pool.items(), &wanted);
+    assert_eq!(rt; by_list.items(), wanted.as_slice());
+    assert_eq!(rt; by_pool.items(), wanted.as_slice());
     Ok(())
 }
 
@@ -258,7 +240,7 @@ fn both_tell_what_an_insert_under_two_values_leaves(rt: HostRuntime) -> Result<(
         Told::Next(Some(line_key(1, 7))),
         Told::Next(None),
     ];
-    assert_eq!(rt; by_list.items(), &wanted);
-    assert_eq!(rt; by_pool.items(), &wanted);
+    assert_eq!(rt; by_list.items(), wanted.as_slice());
+    assert_eq!(rt; by_pool.items(), wanted.as_slice());
     Ok(())
 }
