@@ -1,5 +1,5 @@
 -- The operation of a run on initial rows can be applied to them, where all invariants hold after its changes.
-use Rattle.std.proofs.Common.{◌≡◌, ◌∙◌, ℕ, suc, ◌+◌, ◌≤◌, ◌||◌, if◌then◌else◌, Bool, true, false, List, [], ◌∷◌, map, length, Option, Some, None, slice_get, refl, sym, ap, subst, arith}
+use Rattle.std.proofs.Common.{◌≡◌, ◌∙◌, ℕ, ◌≤◌, ◌||◌, if◌then◌else◌, Bool, true, false, List, [], ◌∷◌, map, length, Option, Some, None, slice_get, sym, ap, subst, arith}
 use Rattle.std.specs.Prelude.{ℤ, All}
 use Rattle.std.proofs.lemmas.List.Elements.{All-head, All-tail}
 use Rattle.std.proofs.lemmas.Option.{get_or_from_slice_get, slice_get_within}
@@ -8,7 +8,6 @@ use Rattle.sv_app.specs.declared.acts.Act.{Act}
 use Rattle.sv_app.specs.declared.acts.Act.TheVariants as acts
 use Rattle.sv_app.specs.declared.apps.App.{App}
 use Rattle.sv_app.specs.declared.places.Place.{Place}
-use Rattle.sv_app.specs.declared.requests.Arg.{Arg}
 use Rattle.sv_app.specs.declared.requests.InitRow.{InitRow}
 use Rattle.sv_app.specs.declared.requests.Request.{Request}
 use Rattle.sv_app.specs.Accepted.{AcceptedApp}
@@ -26,8 +25,8 @@ use Rattle.sv_effect.specs.Faces.{Face}
 use Rattle.sv_effect.specs.Fits.{AllFit}
 use Rattle.sv_effect.specs.Follows.{Follows, TableAgrees}
 use Rattle.sv_effect.specs.Reads.{ReadValue}
-use Rattle.sv_effect.specs.Run.{RunResult, run, ran_of}
-use Rattle.sv_effect.specs.RunChanges.{Effect, effect_of}
+use Rattle.sv_effect.specs.Run.{RunResult, run}
+use Rattle.sv_effect.specs.RunChanges.{effect_of}
 use Rattle.sv_effect.specs.StampedTables.{StampedRow, StampedTables}
 use Rattle.sv_effect.specs.TablesOfCut.{is_place, number_in, init_place, initial}
 use Rattle.sv_effect.specs.Takes.{as_insert, inserts}
@@ -159,11 +158,9 @@ room_for_all schema op t can =
     let most : inserts op.effects ≤ length op.effects = few_inserts op.effects in
     omega (arith, few, most)
 
-pub ruleset applying = (can_apply, room_for_all)
-
 -- one operation
-pub can_one : (schema : List Declaration) (op : Op) (t : StampedTables) → CanApply schema op t → CanApplyAll schema (op ∷ []) t
-can_one schema op t can = (can, tt)
+pub can_one : (d : List Declaration) (op : Op) (t : StampedTables) → CanApply d op t → CanApplyAll d (op ∷ []) t
+can_one d op t can = (can, tt)
 
 pub room_one : (op : Op) → inserts op.effects ≤ 64 → inserts_in (op ∷ []) ≤ 64
 room_one op few = omega (arith, few)

@@ -1,5 +1,5 @@
 -- What the operation of a call is made of: what its run on the initial rows comes to, after which all invariants hold.
-use Rattle.std.specs.Prelude.{◌≡◌, ℤ, List, map}
+use Rattle.std.specs.Prelude.{ℤ, List, map}
 use Rattle.sv_app.specs.declared.apps.App.{App}
 use Rattle.sv_app.specs.declared.requests.InitRow.{InitRow}
 use Rattle.sv_app.specs.declared.requests.Request.{Request}

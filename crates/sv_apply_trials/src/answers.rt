@@ -53,6 +53,7 @@ ask 1 put(1, 7);
 ";
 
 const ITEM: u16 = 0;
+
 const LINE: u16 = 1;
 
 /// What a list and a region of the trial's initial rows answer after the operations.

@@ -1,5 +1,5 @@
 //! The operation of a call: what its run changes on the initial rows, after which all invariants hold.
-ghost use Rattle.std.specs.Prelude.{◌≡◌, ◌≤◌, ◌≤ℤ◌, pos, IfOk, IsOk, OnOk, length, map};
+ghost use Rattle.std.specs.Prelude.{◌≡◌, ◌≤◌, ◌≤ℤ◌, pos, IfOk, OnOk, length, map};
 ghost use Rattle.sv_app.specs.Accepted.{AcceptedApp, AcceptedSchema};
 ghost use Rattle.sv_app.specs.Schema.{schema_of};
 ghost use Rattle.sv_app.specs.Trees.{transactions_of};
@@ -109,7 +109,7 @@ fn made(alloc: Global, trial: &Trial, first: i64) -> Result<Ran, Trouble>
     requires tables { AcceptedSchema (schema_of trial.now.app.tables.items) }
     requires rows { CanStand (schema_of trial.now.app.tables.items) trial.now.init }
     ensures made { IfOk result (IsMadeBy trial.now.app trial.now.init trial.now.request first) }
-    ensures request { IsOk result → IsRequestOf (transactions_of trial.now.app.txns.items) trial.now.request }
+    ensures request { IfOk result (λ ran. IsRequestOf (transactions_of trial.now.app.txns.items) trial.now.request) }
 {
     let Trial { app, init, request } = trial;
     check_request(&app.txns, request)?;
@@ -120,7 +120,6 @@ fn made(alloc: Global, trial: &Trial, first: i64) -> Result<Ran, Trouble>
 }
 
 /// The operation of the trial's request, made at site 1 on the initial rows. Both kinds of store can apply it to them.
-#[tactic(auto, using(crate::proofs::MadeLaws::applying))]
 pub fn operation(alloc: Global, trial: &Trial) -> Result<Op, Trouble>
     requires whole { AcceptedApp (schema_of trial.now.app.tables.items) (transactions_of trial.now.app.txns.items) }
     requires tables { AcceptedSchema (schema_of trial.now.app.tables.items) }
