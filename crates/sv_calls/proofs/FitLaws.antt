@@ -12,7 +12,7 @@ use Rattle.sv_workload.specs.declared.parts.Parts.{Parts}
 use Rattle.sv_workload.specs.PartsFit.{IsRequestOf, PartsFit}
 
 pub can_stand : (schema : List Declaration) (txns : List Transaction) (parts : Parts) → PartsFit schema txns parts → CanStand schema parts.init
-can_stand schema txns parts fit = record { fits = fit.rows; apart = fit.distinct; few = fit.few }
+can_stand schema txns parts fit = record { fits = fit.rows; apart = fit.distinct; valid = fit.valid; few = fit.few }
 
 pub all_fit : (schema : List Declaration) (init : List InitRow) → CanStand schema init → All (InitFits schema) init
 all_fit schema init stand = stand.fits

@@ -53,8 +53,8 @@ fn behind(
     }
 }
 
-/// The application of these tokens, and the place behind it.
-fn application(alloc: Global, tokens: &[Token], end: Spot) -> Result<(App, usize), Trouble>
+/// The application of these tokens, and the place behind it; or what is wrong.
+pub fn application(alloc: Global, tokens: &[Token], end: Spot) -> Result<(App, usize), Trouble>
     ensures whole { IfOk result (λ found. AcceptedApp (schema_of found.0.tables.items) (transactions_of found.0.txns.items)) }
     ensures place { IfOk result (λ found. found.1 ≤ length tokens.now) }
 {

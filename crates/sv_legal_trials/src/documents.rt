@@ -2,7 +2,6 @@
 
 ghost use Rattle.std.specs.Prelude.{◌≡◌, ◌≤◌, IfOk, length};
 ghost use Rattle.sv_app.specs.Accepted.{AcceptedApp};
-ghost use Rattle.sv_app.specs.Conditions.{AreNumbered, KeepsGrammar, KeepsLimits};
 ghost use Rattle.sv_app.specs.Schema.{schema_of};
 ghost use Rattle.sv_app.specs.Trees.{transactions_of};
 ghost use Rattle.sv_core.specs.Document.{document_of};
@@ -16,15 +15,13 @@ ghost use Rattle.sv_workload.specs.PartsFit.{PartsFit, step_moves};
 
 use std::alloc::Global;
 use std::test::Fail;
-use sv_app::{App, Table};
+use sv_app::App;
+use sv_calls::application;
 use sv_core::Doc;
 use sv_dict::compile;
 use sv_label::Dictionary;
-use sv_lex::{Token, lex, spot_of};
-use sv_schema_reader::read_schema;
-use sv_txn_reader::read_txns;
-use sv_typing::accept;
-use sv_value::{List, Spot};
+use sv_lex::{lex, spot_of};
+use sv_value::List;
 use sv_workload::{Parts, Step, Work, read_parts};
 
 /// What a world is made for, and the steps that it takes, in order.
@@ -75,41 +72,6 @@ fn moves_in(steps: &[Step]) -> u32
     match steps {
         [] => 0,
         [step, steps @ ..] => moves_of(step) + moves_in(steps),
-    }
-}
-
-/// The application of these tables and the tokens behind them, and the place behind it.
-fn behind(
-    alloc: Global,
-    tables: Vec<Table>,
-    tokens: &[Token],
-    end: Spot,
-    at: usize,
-) -> Result<(App, usize), Fail>
-    requires place { at ≤ length tokens.now }
-    requires grammar { KeepsGrammar (schema_of tables.items) }
-    requires limits { KeepsLimits (schema_of tables.items) }
-    requires invariants { AreNumbered (schema_of tables.items) }
-    ensures accepted { IfOk result (λ found. AcceptedApp (schema_of found.0.tables.items) (transactions_of found.0.txns.items)) }
-    ensures place { IfOk result (λ found. found.1 ≤ length tokens.now) }
-{
-    match read_txns(alloc, tokens, end, at) {
-        Err(_) => Err(Fail::from("transactions that aren't read")),
-        Ok((txns, next)) => match accept(alloc, tables, txns) {
-            Ok(app) => Ok((app, next)),
-            Err(_) => Err(Fail::from("an application that isn't accepted")),
-        },
-    }
-}
-
-/// The application of these tokens, and the place behind it.
-fn application(alloc: Global, tokens: &[Token], end: Spot) -> Result<(App, usize), Fail>
-    ensures accepted { IfOk result (λ found. AcceptedApp (schema_of found.0.tables.items) (transactions_of found.0.txns.items)) }
-    ensures place { IfOk result (λ found. found.1 ≤ length tokens.now) }
-{
-    match read_schema(alloc, tokens, end, 0) {
-        Err(_) => Err(Fail::from("tables that aren't read")),
-        Ok((tables, at)) => behind(alloc, tables, tokens, end, at),
     }
 }
 

@@ -1,22 +1,10 @@
-//! Labels, and what a path does in forms, as texts: its unit, its choices, its facts, its changes, and the number of its
+//! What a path does in forms, as a text: its unit, its choices, its facts, its changes, and the number of its
 //! symbols. So `0 0: x0 - x1 <= 0; update item stock+=s1; 3` is a path of one choice with one fact and one change.
-use std::alloc::Global;
-use sv_app::{Act, App, Instance, Reason};
+use sv_app::{Act, App, Instance};
 use sv_bounds::Diff;
+use sv_calls::{put, put_choices, put_text};
 use sv_linear::{Form, Shape, SymEffect, SymVal, SymWrite};
-use sv_threat::Label;
-use sv_value::{NoMemory, Text, put_int};
-
-fn put(out: &mut Vec<u8>, bytes: &[u8]) -> Result<(), NoMemory> {
-    out.extend_from_slice(bytes)?;
-    Ok(())
-}
-
-fn put_text(out: &mut Vec<u8>, text: &Text) -> Result<(), NoMemory> {
-    put(out, b"'")?;
-    put(out, text.bytes())?;
-    put(out, b"'")
-}
+use sv_value::{NoMemory, put_int};
 
 /// A term, behind its sign; a coefficient of 1 isn't written.
 fn put_term(out: &mut Vec<u8>, symbol: u8, by: i64) -> Result<(), NoMemory> {
@@ -120,16 +108,6 @@ fn put_change(out: &mut Vec<u8>, app: &App, change: &SymEffect) -> Result<(), No
     Ok(())
 }
 
-fn put_choices(out: &mut Vec<u8>, choices: &[bool]) -> Result<(), NoMemory> {
-    if choices.is_empty() {
-        put(out, b"-")?;
-    }
-    for choice in choices {
-        put(out, if *choice { b"1" } else { b"0" })?;
-    }
-    Ok(())
-}
-
 /// The line of what the instance's unit does on the path that it took.
 pub fn put_shape(
     out: &mut Vec<u8>,
@@ -150,43 +128,4 @@ pub fn put_shape(
     put(out, b" ")?;
     put_int(out, shape.symbols as i128)?;
     put(out, b"\n")
-}
-
-fn put_numbered(out: &mut Vec<u8>, word: &[u8], number: u16) -> Result<(), NoMemory> {
-    put(out, word)?;
-    put(out, b" ")?;
-    put_int(out, number as i128)
-}
-
-fn put_reason(out: &mut Vec<u8>, reason: Reason) -> Result<(), NoMemory> {
-    match reason {
-        Reason::Plain => put(out, b"plain"),
-        Reason::Unique(inv) => put_numbered(out, b"unique", inv),
-        Reason::Child(inv) => put_numbered(out, b"child", inv),
-        Reason::Parent(inv) => put_numbered(out, b"parent", inv),
-        Reason::Check(inv) => put_numbered(out, b"check", inv),
-        Reason::List(inv) => put_numbered(out, b"list", inv),
-    }
-}
-
-/// The text of a label: `none`, `blue`, or `red` with the instance, the place and the reason of the first threat.
-pub fn label_text(alloc: Global, label: &Label) -> Result<Vec<u8>, NoMemory> {
-    let mut out = Vec::new(alloc);
-    match label {
-        Label::Nothing => put(&mut out, b"none")?,
-        Label::Blue => put(&mut out, b"blue")?,
-        Label::Red {
-            instance,
-            place,
-            reason,
-        } => {
-            put(&mut out, b"red ")?;
-            put_int(&mut out, *instance as i128)?;
-            put(&mut out, b" ")?;
-            put_int(&mut out, *place as i128)?;
-            put(&mut out, b" ")?;
-            put_reason(&mut out, *reason)?;
-        }
-    }
-    Ok(out)
 }

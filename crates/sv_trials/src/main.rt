@@ -9,8 +9,6 @@
 //! otherwise.
 #![tactic(auto)]
 
-mod documents;
-mod fitting;
 mod halts;
 mod plain;
 mod plain_changes;
@@ -22,7 +20,6 @@ mod plain_values;
 mod plain_verdicts;
 mod texts;
 mod trials;
-mod troubles;
 
 use std::io::{self, ErrorKind};
 use sv_cases::Cases;

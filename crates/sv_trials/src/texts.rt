@@ -2,22 +2,11 @@
 //! instances, each with its unit, its choices and its tape. So
 //! `ok(); update t(1) n+=5 v=3 @0; kept t(1); 0 10 (1, 5)` is a run of one change and two choices.
 use std::alloc::Global;
-use sv_app::{Act, App, Instance, Reason};
+use sv_app::{Act, App, Instance};
+use sv_calls::{put, put_choices, put_text};
 use sv_check::Verdict;
 use sv_effect::{Need, Outcome, Ran, RowEffect, Write};
-use sv_threat::Label;
-use sv_value::{Key, NoMemory, Text, Val, put_int};
-
-fn put(out: &mut Vec<u8>, bytes: &[u8]) -> Result<(), NoMemory> {
-    out.extend_from_slice(bytes)?;
-    Ok(())
-}
-
-fn put_text(out: &mut Vec<u8>, text: &Text) -> Result<(), NoMemory> {
-    put(out, b"'")?;
-    put(out, text.bytes())?;
-    put(out, b"'")
-}
+use sv_value::{Key, NoMemory, Val, put_int};
 
 fn put_val(out: &mut Vec<u8>, val: &Val) -> Result<(), NoMemory> {
     match val {
@@ -129,16 +118,7 @@ fn put_instance(out: &mut Vec<u8>, instance: &Instance) -> Result<(), NoMemory> 
     put(out, b"; ")?;
     put_int(out, instance.unit as i128)?;
     put(out, b" ")?;
-    if instance.choices.is_empty() {
-        put(out, b"-")?;
-    }
-    for choice in instance.choices.items() {
-        if *choice {
-            put(out, b"1")?;
-        } else {
-            put(out, b"0")?;
-        }
-    }
+    put_choices(out, instance.choices.items())?;
     put(out, b" ")?;
     put_vals(out, instance.tape.items())
 }
@@ -170,43 +150,4 @@ pub fn put_verdict(out: &mut Vec<u8>, verdict: &Verdict) -> Result<(), NoMemory>
             put_key(out, key)
         }
     }
-}
-
-fn put_numbered(out: &mut Vec<u8>, word: &[u8], number: u16) -> Result<(), NoMemory> {
-    put(out, word)?;
-    put(out, b" ")?;
-    put_int(out, number as i128)
-}
-
-fn put_reason(out: &mut Vec<u8>, reason: Reason) -> Result<(), NoMemory> {
-    match reason {
-        Reason::Plain => put(out, b"plain"),
-        Reason::Unique(inv) => put_numbered(out, b"unique", inv),
-        Reason::Child(inv) => put_numbered(out, b"child", inv),
-        Reason::Parent(inv) => put_numbered(out, b"parent", inv),
-        Reason::Check(inv) => put_numbered(out, b"check", inv),
-        Reason::List(inv) => put_numbered(out, b"list", inv),
-    }
-}
-
-/// The text of a label: `none`, `blue`, or `red` with the instance, the place and the reason of the first threat.
-pub fn label_text(alloc: Global, label: &Label) -> Result<Vec<u8>, NoMemory> {
-    let mut out = Vec::new(alloc);
-    match label {
-        Label::Nothing => put(&mut out, b"none")?,
-        Label::Blue => put(&mut out, b"blue")?,
-        Label::Red {
-            instance,
-            place,
-            reason,
-        } => {
-            put(&mut out, b"red ")?;
-            put_int(&mut out, *instance as i128)?;
-            put(&mut out, b" ")?;
-            put_int(&mut out, *place as i128)?;
-            put(&mut out, b" ")?;
-            put_reason(&mut out, *reason)?;
-        }
-    }
-    Ok(out)
 }

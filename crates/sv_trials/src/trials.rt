@@ -3,21 +3,19 @@ ghost use Rattle.std.specs.Prelude.{◌≡◌, ◌≤◌, ◌≤ℤ◌, pos, IfO
 ghost use Rattle.sv_app.specs.Accepted.{AcceptedApp, AcceptedSchema};
 ghost use Rattle.sv_app.specs.Schema.{schema_of};
 ghost use Rattle.sv_app.specs.Trees.{transactions_of};
+ghost use Rattle.sv_calls.specs.Standing.{CanStand};
 ghost use Rattle.sv_effect.specs.Fits.{AllFit};
-ghost use Rattle.sv_trials.specs.Standing.{CanStand};
 ghost use Rattle.sv_workload.specs.PartsFit.{IsRequestOf};
 
-use crate::documents::{Trial, store, trial_of};
-use crate::fitting::check_request;
 use crate::plain::{PlainRun, run};
 use crate::plain_changes::got_of;
 use crate::plain_labels::label;
 use crate::plain_rows::PlainRow;
 use crate::plain_verdicts::judge;
-use crate::texts::{label_text, put_verdict, text_of};
-use crate::troubles::Trouble;
+use crate::texts::{put_verdict, text_of};
 use std::alloc::Global;
 use sv_app::{App, InitRow, Place, Request, first_key};
+use sv_calls::{Trial, Trouble, check_request, label_text, store, trial_of};
 use sv_cases::Case;
 use sv_check::{Verdict, check_after};
 use sv_effect::{Noted, Outcome, Ran, RowEffect, Rows};
