@@ -9,11 +9,12 @@ use Rattle.sv_core.specs.declared.answers.Commit.{Commit}
 use Rattle.sv_core.specs.declared.answers.Commit.TheVariants as commits
 use Rattle.sv_core.specs.declared.answers.Ordered.TheVariants as orders
 use Rattle.sv_core.specs.declared.prepared.Prepared.{Prepared}
-use Rattle.sv_core.specs.Events.{IsCommit, IsOrdered}
+use Rattle.sv_core.specs.Events.{IsCaught, IsCommit, IsOrdered}
 use Rattle.sv_core.specs.History.{site_of}
 use Rattle.sv_core.specs.Legal.{IsSession}
 use Rattle.sv_core.specs.MediumState.{CanCommit}
-use Rattle.sv_core.specs.Mediums.{AreNextCalls, MediumView, Proposal, doc_of, proposal_of, with_proposal}
+use Rattle.sv_core.specs.Mediums.{AreNextCalls, MediumView, Proposal, WorldView, doc_of, proposal_of, with_history, with_proposal}
+use Rattle.sv_core.specs.Packets.{caught_up}
 use Rattle.sv_core.proofs.PastLaws.{caught_grows, commit_grows, commit_stays, order_grows, order_stays}
 use Rattle.sv_live.specs.declared.answers.Attempt.{Attempt}
 use Rattle.sv_live.specs.declared.answers.Attempt.TheVariants as attempts
@@ -35,10 +36,10 @@ proposed_waits m between p who nexts (inr waits) =
     record { proposal = proposal; is = ap (λ x. proposal_of x p.session) waits.1.3 ∙ get_or-set_same m.proposals (p.session - 1) (Some proposal) None (omega (arith, who.from, who.to, nexts.long)) }
 
 pub slot_asked : (m between after : MediumView) (p : Prepared) (answer : Attempt) → IsProposed m p between → IsSlotAsked between p.session answer after → IsAttempt m p answer after
-slot_asked m between after p (attempts.Answered place index packet) proposed is = (inr (between, (proposed, is.0)), is.1)
+slot_asked m between after p (attempts.Answered place index packet) proposed is = (inr (between, proposed, is.0), is.1)
 slot_asked m between after p (attempts.Changed read now) proposed is = absurd is
 slot_asked m between after p (attempts.NotNext next) proposed is = absurd is
-slot_asked m between after p (attempts.Behind slot owner) proposed is = (between, (proposed, is))
+slot_asked m between after p (attempts.Behind slot owner) proposed is = (between, proposed, is)
 slot_asked m between after p (attempts.Short missing) proposed is = absurd is
 
 -- what a step leaves: the document, and a history that extends what it was
@@ -57,7 +58,7 @@ by_proposal m between p (inl waits) = by_commit m between p (commits.Waiting p w
 by_proposal m between p (inr waits) = by_commit m between p (commits.Pending waits.0) waits.1
 
 by_slot : (m after : MediumView) (session slot owner : ℕ) → IsOvertaken m session slot owner after → Leaves m after
-by_slot m after session slot owner o = both
+by_slot m after session slot owner o = both {between = o.ordered}
     (record { same = order_stays m o.ordered session (orders.Behind slot owner) o.is; more = order_grows m o.ordered session (orders.Behind slot owner) o.is })
     (record { same = ap (λ x. x.doc) o.caught; more = caught_grows o.ordered.history after.history (site_of (doc_of o.ordered) o.ordered.history session) _ (record { many = refl; all = ap (λ x. x.history) o.caught }) })
 
@@ -66,13 +67,13 @@ by_place m after session place is = record { same = order_stays m after session 
 
 by_entry : (m after : MediumView) (p : Prepared) (place : ℕ) → IsEntered m p place after → Leaves m after
 by_entry m after p place (inl is) = by_commit m after p (commits.Answered place) is
-by_entry m after p place (inr is) = both (by_proposal m is.0 p is.1.0) (by_place is.0 after p.session place is.1.1)
+by_entry m after p place (inr is) = both (by_proposal m is.0 p is.1) (by_place is.0 after p.session place is.2)
 
 leaves : (m after : MediumView) (p : Prepared) (answer : Attempt) → IsAttempt m p answer after → Leaves m after
 leaves m after p (attempts.Answered place index packet) is = by_entry m after p place is.0
 leaves m after p (attempts.Changed read now) is = by_commit m after p (commits.Changed p read now) is
 leaves m after p (attempts.NotNext next) is = by_commit m after p (commits.NotNext p next) is
-leaves m after p (attempts.Behind slot owner) is = both (by_proposal m is.0 p is.1.0) (by_slot is.0 after p.session slot owner is.1.1)
+leaves m after p (attempts.Behind slot owner) is = both (by_proposal m is.0 p is.1) (by_slot is.0 after p.session slot owner is.2)
 leaves m after p (attempts.Short missing) is = by_commit m after p (commits.Short p missing) is
 
 pub attempt_grows : (m after : MediumView) (p : Prepared) (answer : Attempt) → IsAttempt m p answer after → Extends after.history m.history
@@ -92,14 +93,14 @@ placed_frees m after session place is = ap (λ x. proposal_of x session) is.3.ad
 
 entered_frees : (m after : MediumView) (p : Prepared) (place : ℕ) → IsEntered m p place after → proposal_of after p.session ≡ None
 entered_frees m after p place (inl is) = ap (λ x. proposal_of x p.session) is.2.added ∙ is.0.current.free.none
-entered_frees m after p place (inr is) = placed_frees is.0 after p.session place is.1.1
+entered_frees m after p place (inr is) = placed_frees is.0 after p.session place is.2
 
 pub attempt_frees : (m after : MediumView) (p : Prepared) (answer : Attempt) → IsAttempt m p answer after → IsFreed after p.session answer
 attempt_frees m after p (attempts.Answered place index packet) is = entered_frees m after p place is.0
 attempt_frees m after p (attempts.Changed read now) is = ap (λ x. proposal_of x p.session) is.3 ∙ is.1.free.none
 attempt_frees m after p (attempts.NotNext next) is = tt
 attempt_frees m after p (attempts.Behind slot owner) is =
-    ap (λ x. proposal_of x p.session) is.1.1.caught ∙ ap (λ x. proposal_of x p.session) is.1.1.is.4 ∙ cleared is.0.proposals (p.session - 1)
+    ap (λ x. proposal_of x p.session) is.2.caught ∙ ap (λ x. proposal_of x p.session) is.2.is.4 ∙ cleared is.0.proposals (p.session - 1)
 attempt_frees m after p (attempts.Short missing) is = ap (λ x. proposal_of x p.session) is.3 ∙ is.1.none
 
 pub commit_stands : (m after : MediumView) (p : Prepared) (place : ℕ) → IsCommit m p (commits.Answered place) after → HasAnswer after.history p.session place
@@ -112,13 +113,20 @@ order_stands m after session place is =
 -- where an answer is entered nothing stood before
 pub entered_new : (m after : MediumView) (p : Prepared) (place : ℕ) → IsEntered m p place after → length m.history ≤ place
 entered_new m after p place (inl is) = omega (arith, is.2.stands)
-entered_new m after p place (inr is) = by is.1.0
+entered_new m after p place (inr is) = by is.1
   where
     there : place ≡ length is.0.history
-    there = is.1.1.3.stands
+    there = is.2.3.stands
 
     by : IsProposed m p is.0 → length m.history ≤ place
     by (inl waits) = let e : length is.0.history ≡ length m.history = ap (λ x. length x.history) waits.1.3 in omega (arith, there, e)
     by (inr waits) = let e : length is.0.history ≡ length m.history = ap (λ x. length x.history) waits.1.3 in omega (arith, there, e)
+
+-- a site that catches up behind an operation of another site
+pub caught_there : (w after : WorldView) (session site count : ℕ) → site ≡ site_of (doc_of w.medium) w.medium.history session → IsCaught w.medium.history site count after.medium.history
+    → after ≡ record { medium = with_history w.medium after.medium.history; inboxes = w.inboxes }
+    → after.medium ≡ with_history w.medium (caught_up w.medium.history (site_of (doc_of w.medium) w.medium.history session))
+caught_there w after session site count here caught same =
+    ap (λ x. x.medium) same ∙ ap (with_history w.medium) caught.all ∙ ap (λ s. with_history w.medium (caught_up w.medium.history s)) here
 
 pub ruleset attempting = (attempt_grows, attempt_stays, attempt_frees)

@@ -1,5 +1,5 @@
 -- Where answers stand in a history.
-use Rattle.std.proofs.Common.{◌≡◌, ℕ, ◌+◌, ◌<◌, ◌≤◌, List, [], ◌∷◌, ◌++◌, length, reverse, Option, Some, slice_get, refl, sym, ap, subst, ◌∙◌, arith, length-append}
+use Rattle.std.proofs.Common.{◌≡◌, ℕ, ◌+◌, ◌<◌, ◌≤◌, List, [], ◌∷◌, ◌++◌, length, reverse, Option, Some, None, slice_get, refl, sym, ap, subst, ◌∙◌, arith, length-append}
 use Rattle.std.proofs.lemmas.List.{reverse-append, length-reverse}
 use Rattle.sv_value.specs.declared.packets.Packet.{Packet}
 use Rattle.sv_app.specs.declared.requests.Request.{Request}
@@ -12,7 +12,9 @@ use Rattle.sv_core.specs.History.{History}
 use Rattle.sv_core.specs.Mediums.{MediumView}
 use Rattle.sv_live.specs.declared.answers.Receipt.{Receipt}
 use Rattle.sv_live.specs.declared.answers.Receipt.TheVariants.{Answered, Ended}
-use Rattle.sv_live.specs.Receipts.{HasAnswer, IsAnswerAt, IsNew, IsReceipt}
+use Rattle.sv_live.specs.Receipts.{HasAnswer, IsAnswerAt, IsNew, IsReceipt, IsReceiptIfAny}
+use Rattle.sv_live.specs.declared.turns.Entered.{Entered}
+use Rattle.sv_live.specs.Dues.{IsEntryIfAny}
 
 -- the newest entry is the last one in order
 at_end : (entries : List Entry) (e : Entry) → slice_get (entries ++ e ∷ []) (length entries) ≡ Some e
@@ -55,4 +57,19 @@ receipt_earlier doc before middle after session (Answered place index) grown is 
     record { packet = is.packet; answer = is.answer; unseen = omega (arith, long, is.unseen) }
 receipt_earlier doc before middle after session (Ended count) grown is = is
 
-pub ruleset receipts = (receipt_earlier)
+pub receipt_if_any : (doc : Document) (before middle after : History) (session : ℕ) (receipt : Option Receipt) → Extends middle before → IsReceiptIfAny doc middle after session receipt
+    → IsReceiptIfAny doc before after session receipt
+receipt_if_any doc before middle after session None grown is = is
+receipt_if_any doc before middle after session (Some receipt) grown is = receipt_earlier doc before middle after session receipt grown is
+
+pub entry_earlier : (before middle after : History) (session : ℕ) (entered : Option Entered) → Extends middle before → IsEntryIfAny middle after session entered
+    → IsEntryIfAny before after session entered
+entry_earlier before middle after session None grown is = is
+entry_earlier before middle after session (Some e) grown is =
+    let long : length before ≤ length middle = extends_longer grown in record { answer = is.answer; unseen = omega (arith, long, is.unseen) }
+
+-- the same, said of what the passes have seen
+pub entry_there : (before middle after seen : History) (session : ℕ) (entered : Option Entered) → Extends middle before → seen ≡ after → IsEntryIfAny middle after session entered
+    → IsEntryIfAny before seen session entered
+entry_there before middle after seen session entered grown same is =
+    subst (λ h. IsEntryIfAny before h session entered) (sym same) (entry_earlier before middle after session entered grown is)

@@ -5,6 +5,8 @@ ghost use Rattle.sv_hub.specs.Extends.{Extends};
 ghost use Rattle.sv_hub.specs.Sight.{Belongs};
 ghost use Rattle.sv_post.specs.Logs.{WasEmpty};
 ghost use Rattle.sv_post.specs.Sight.{Belongs as IsOfPost, seen_of, with_seen};
+ghost use Rattle.sv_core.specs.declared.docs.Doc.{Doc};
+ghost use Rattle.sv_core.specs.declared.entries.Entry.{Entry};
 ghost use Rattle.sv_core.specs.Document.{document_of};
 ghost use Rattle.sv_core.specs.Legal.{Legal};
 ghost use Rattle.sv_core.specs.Sound.{IsSite};
@@ -17,7 +19,7 @@ use sv_post::{Post, PostPass};
 use sv_value::{Packet, Site};
 
 /// Settles at the site all that may be applied.
-#[tactic(auto, using(sv_core::proofs::PastLaws::growing, crate::proofs::SettleLaws::settled_fewer))]
+#[tactic(auto, using(sv_core::proofs::PastLaws::growing))]
 fn settle_all(w: &mut World, site: Site)
     requires { IsSite (document_of w.old.medium.doc) site }
     ensures grows { Extends w.new.medium.history w.old.medium.history }
