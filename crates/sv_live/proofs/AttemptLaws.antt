@@ -1,15 +1,14 @@
 -- What an attempt leaves.
-use Rattle.std.proofs.Common.{◌≡◌, ◌⊎◌, inl, inr, ℕ, ◌-◌, ◌<◌, ◌≤◌, List, length, set, get_or, Option, Some, None, refl, sym, ap, subst, ◌∙◌, arith}
+use Rattle.std.proofs.Common.{◌≡◌, inl, inr, ℕ, ◌-◌, ◌≤◌, List, length, set, get_or, Option, Some, None, refl, ap, ◌∙◌, arith}
 use Rattle.std.specs.Prelude.{zero, suc, [], ◌∷◌}
 use Rattle.std.proofs.lemmas.List.{get_or-set_same}
-use Rattle.sv_value.specs.declared.packets.Packet.{Packet}
 use Rattle.sv_hub.specs.Extends.{Extends}
 use Rattle.sv_hub.proofs.ExtendsLaws.{extends_trans}
 use Rattle.sv_core.specs.declared.answers.Commit.{Commit}
 use Rattle.sv_core.specs.declared.answers.Commit.TheVariants as commits
 use Rattle.sv_core.specs.declared.answers.Ordered.TheVariants as orders
 use Rattle.sv_core.specs.declared.prepared.Prepared.{Prepared}
-use Rattle.sv_core.specs.Events.{IsCaught, IsCommit, IsOrdered}
+use Rattle.sv_core.specs.Events.{IsCaught, IsCommit}
 use Rattle.sv_core.specs.History.{site_of}
 use Rattle.sv_core.specs.Legal.{IsSession}
 use Rattle.sv_core.specs.MediumState.{CanCommit}
@@ -19,7 +18,7 @@ use Rattle.sv_core.proofs.PastLaws.{caught_grows, commit_grows, commit_stays, or
 use Rattle.sv_live.specs.declared.answers.Attempt.{Attempt}
 use Rattle.sv_live.specs.declared.answers.Attempt.TheVariants as attempts
 use Rattle.sv_live.specs.Attempts.{IsAttempt, IsEntered, IsFreed, IsOvertaken, IsPlaced, IsProposed, IsSlotAsked, IsWaiting}
-use Rattle.sv_live.specs.Receipts.{HasAnswer, IsAnswerAt}
+use Rattle.sv_live.specs.Receipts.{HasAnswer}
 use Rattle.sv_live.proofs.ReceiptLaws.{added_stands}
 
 pub session_of : (m : MediumView) (p : Prepared) → CanCommit m p → IsSession p.session

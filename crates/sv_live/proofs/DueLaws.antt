@@ -1,5 +1,5 @@
 -- What is known of a call that was found to be next.
-use Rattle.std.proofs.Common.{◌≡◌, ◌≢◌, ℕ, ◌+◌, ◌<◌, ◌≤◌, List, [], ◌∷◌, length, get_or, Option, Some, None, slice_get, refl, sym, ap, subst, ◌∙◌, arith}
+use Rattle.std.proofs.Common.{◌≡◌, ◌≢◌, ℕ, ◌+◌, ◌<◌, ◌≤◌, List, [], length, get_or, Some, None, slice_get, refl, sym, ap, subst, ◌∙◌, arith}
 use Rattle.std.proofs.lemmas.Option.{slice_get_past, slice_get_read}
 use Rattle.sv_app.specs.declared.requests.Request.{Request}
 use Rattle.sv_core.specs.declared.docs.Doc.{Doc}
@@ -13,7 +13,7 @@ use Rattle.sv_core.specs.Legal.{IsSession, Legal}
 use Rattle.sv_core.specs.Made.{IsFor, IsListedAt, Made}
 use Rattle.sv_core.specs.MediumState.{CanCommit}
 use Rattle.sv_core.specs.Mediums.{AreNextCalls, MediumView, doc_of}
-use Rattle.sv_core.specs.Sound.{IsSite, Sound, SoundDoc}
+use Rattle.sv_core.specs.Sound.{Sound, SoundDoc}
 use Rattle.sv_core.proofs.ItemLaws.{HasEnded, call_listed, can_commit, go_awaited, has_ended, item_fits}
 use Rattle.sv_live.specs.declared.begun.Due.{Due}
 use Rattle.sv_live.specs.declared.begun.Next.{Next}

@@ -1,5 +1,5 @@
 -- What a turn fetched, said of the history that the pass has seen then.
-use Rattle.std.proofs.Common.{◌≡◌, ℕ, sym, ap, subst, ◌∙◌}
+use Rattle.std.proofs.Common.{◌≡◌, ℕ, subst}
 use Rattle.sv_effect.specs.declared.reads.Ask.{Ask}
 use Rattle.sv_effect.specs.BareTables.{bare}
 use Rattle.sv_core.specs.declared.docs.Doc.{Doc}

@@ -1,9 +1,9 @@
 -- Where answers stand in a history.
-use Rattle.std.proofs.Common.{◌≡◌, ℕ, ◌+◌, ◌<◌, ◌≤◌, List, [], ◌∷◌, ◌++◌, length, reverse, Option, Some, None, slice_get, refl, sym, ap, subst, ◌∙◌, arith, length-append}
+use Rattle.std.proofs.Common.{◌≡◌, ℕ, ◌+◌, ◌≤◌, List, [], ◌∷◌, ◌++◌, length, reverse, Option, Some, None, slice_get, refl, sym, ap, subst, ◌∙◌, arith, length-append}
 use Rattle.std.proofs.lemmas.List.{reverse-append, length-reverse}
-use Rattle.sv_value.specs.declared.packets.Packet.{Packet}
 use Rattle.sv_app.specs.declared.requests.Request.{Request}
 use Rattle.sv_hub.specs.Extends.{Extends}
+use Rattle.sv_hub.proofs.ExtendsLaws.{extends_trans}
 use Rattle.sv_core.specs.declared.entries.Entry.{Entry}
 use Rattle.sv_core.specs.declared.entries.Entry.TheVariants.{Answer}
 use Rattle.sv_core.specs.Document.{Document}
@@ -12,7 +12,7 @@ use Rattle.sv_core.specs.History.{History}
 use Rattle.sv_core.specs.Mediums.{MediumView}
 use Rattle.sv_live.specs.declared.answers.Receipt.{Receipt}
 use Rattle.sv_live.specs.declared.answers.Receipt.TheVariants.{Answered, Ended}
-use Rattle.sv_live.specs.Receipts.{HasAnswer, IsAnswerAt, IsNew, IsReceipt, IsReceiptIfAny}
+use Rattle.sv_live.specs.Receipts.{HasAnswer, IsReceipt, IsReceiptIfAny}
 use Rattle.sv_live.specs.declared.turns.Entered.{Entered}
 use Rattle.sv_live.specs.Dues.{IsEntryIfAny}
 
@@ -73,3 +73,10 @@ pub entry_there : (before middle after seen : History) (session : ℕ) (entered 
     → IsEntryIfAny before seen session entered
 entry_there before middle after seen session entered grown same is =
     subst (λ h. IsEntryIfAny before h session entered) (sym same) (entry_earlier before middle after session entered grown is)
+
+-- what a pass has seen behind a turn in which the history grew
+pub seen_later : (before found was after seen : History) → Extends found before → was ≡ found → Extends after was → seen ≡ after → Extends seen before
+seen_later before found was after seen entered same grown left = subst (λ h. Extends h before) (sym left) (extends_trans (subst (λ h. Extends after h) same grown) entered)
+
+pub receipt_some : (doc : Document) (before after : History) (session : ℕ) (receipt : Receipt) → IsReceiptIfAny doc before after session (Some receipt) → IsReceipt doc before after session receipt
+receipt_some doc before after session receipt is = is

@@ -1,11 +1,11 @@
 -- Settling ends: each packet that is applied leaves the inbox.
-use Rattle.std.proofs.Common.{◌≡◌, ℕ, ◌+◌, ◌<◌, ◌≤◌, ◌++◌, ◌∷◌, [], List, length, Option, Some, None, Bool, true, false, refl, sym, ap, subst, ◌∙◌, arith, length-append}
+use Rattle.std.proofs.Common.{◌≡◌, ℕ, ◌+◌, ◌<◌, ◌≤◌, ◌∷◌, [], List, length, Option, Some, None, Bool, true, false, ap, ◌∙◌, arith, length-append}
 use Rattle.std.specs.List.{filter}
 use Rattle.std.specs.Prelude.{if◌then◌else◌, is_some, suc}
 use Rattle.sv_value.specs.declared.packets.Packet.{Packet}
 use Rattle.sv_causal.specs.Inboxes.{lacks}
 use Rattle.sv_core.specs.Document.{Document}
-use Rattle.sv_core.specs.Events.{IsFirstReady, IsSettled}
+use Rattle.sv_core.specs.Events.{IsSettled}
 use Rattle.sv_core.specs.History.{History, cut_of}
 
 filtered : (test : Packet → Bool) (xs : List Packet) → length (filter test xs) ≤ length xs

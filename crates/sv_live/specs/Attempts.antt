@@ -1,6 +1,5 @@
 -- What an attempt to answer a request says, by its causes, and what it leaves of what the sites share.
-use Rattle.std.specs.Prelude.{◌≡◌, ◌⊎◌, ℕ, Option, Some, None}
-use Rattle.sv_value.specs.declared.packets.Packet.{Packet}
+use Rattle.std.specs.Prelude.{◌≡◌, ◌⊎◌, ℕ, Some, None}
 use Rattle.sv_core.specs.declared.answers.Commit.TheVariants as commits
 use Rattle.sv_core.specs.declared.answers.Ordered.TheVariants as orders
 use Rattle.sv_core.specs.declared.prepared.Prepared.{Prepared}

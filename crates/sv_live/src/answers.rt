@@ -12,13 +12,23 @@ pub enum Attempt {
         packet: Option<Packet>,
     },
     /// A read isn't what the site's tables give now; `read` is its number, from 0, and `now` what they give.
-    Changed { read: u32, now: Told },
+    Changed {
+        read: u32,
+        now: Told,
+    },
     /// Another request of the session is the next one, this one.
-    NotNext { next: u32 },
+    NotNext {
+        next: u32,
+    },
     /// An operation of the site `owner` has the slot that was expected.
-    Behind { slot: u32, owner: Site },
+    Behind {
+        slot: u32,
+        owner: Site,
+    },
     /// The site lacks something that the session has seen; `missing` is the first packet of that.
-    Short { missing: Packet },
+    Short {
+        missing: Packet,
+    },
 }
 
 /// What a request came to.

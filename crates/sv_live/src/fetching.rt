@@ -68,12 +68,7 @@ fn make_room(sheet: &mut Sheet) -> Result<(), NoMemory>
 }
 
 /// Prepares the answer to the request that is due, over what is known.
-fn prepare_on(
-    alloc: Global,
-    session: u16,
-    due: &Due,
-    sheet: &mut Sheet,
-) -> Result<Prepared, Halt>
+fn prepare_on(alloc: Global, session: u16, due: &Due, sheet: &mut Sheet) -> Result<Prepared, Halt>
     requires session { IsListedSession (document_of sheet.old.doc) session }
     requires due { IsDue sheet.old.doc session due.now }
     ensures duly { IfOk result (IsDuly sheet.old.doc session due.now) }
@@ -81,7 +76,9 @@ fn prepare_on(
     ensures missing { (ask : AskValue) → result ≡ Err (Missing ask) → is_known sheet.old.known ask ≡ false }
 {
     let request = request_of(&due.doc, session, due);
-    prepare(alloc, &due.doc, session, due.site, due.index, request, sheet)
+    prepare(
+        alloc, &due.doc, session, due.site, due.index, request, sheet,
+    )
 }
 
 /// Prepares the answer to the request that is due, without the turn. Each answer that is missing is fetched in a turn.

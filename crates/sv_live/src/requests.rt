@@ -22,13 +22,7 @@ use sv_post::{Post, PostPass};
 use sv_value::{NoMemory, Site};
 
 /// The receipt of an answer. What it published is sent to the other sites.
-fn send<R: Wait>(
-    rt: &R,
-    post: &Post,
-    mail: &mut PostPass,
-    from: Site,
-    entered: &Entered,
-) -> Receipt
+fn send<R: Wait>(rt: &R, post: &Post, mail: &mut PostPass, from: Site, entered: &Entered) -> Receipt
     requires mail { IsOfPost post.now mail.old }
     requires from { HasSite post.now from }
     ensures mail { IsOfPost post.now mail.new }
@@ -45,6 +39,7 @@ fn send<R: Wait>(
 }
 
 /// Asks the request that is due, once: the receipt, or none where it is to be asked anew.
+#[tactic(auto, using(sv_hub::proofs::ExtendsLaws::extending))]
 fn ask<G: Gate, R: Wait>(
     alloc: Global,
     rt: &R,
@@ -83,6 +78,7 @@ fn ask<G: Gate, R: Wait>(
 }
 
 /// Does the session's next item, once: the receipt, or none where the session isn't answered and has not ended.
+#[tactic(auto, using(sv_hub::proofs::ExtendsLaws::extending, crate::proofs::ReceiptLaws::receipt_if_any))]
 fn try_request<G: Gate, R: Wait>(
     alloc: Global,
     rt: &R,
@@ -121,6 +117,7 @@ fn try_request<G: Gate, R: Wait>(
 /// # Errors
 ///
 /// `NoMemory` where there is none outside of the last turn; then nothing of this call waits for a slot.
+#[tactic(auto, using(sv_hub::proofs::ExtendsLaws::extending, crate::proofs::ReceiptLaws::receipt_earlier, crate::proofs::ReceiptLaws::receipt_some, sv_post::proofs::SightLaws::later_same, sv_post::proofs::SightLaws::later_trans))]
 pub fn request<G: Gate, R: Wait>(
     alloc: Global,
     rt: &R,

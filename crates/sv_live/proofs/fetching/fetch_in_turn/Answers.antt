@@ -4,4 +4,5 @@ use Rattle.sv_live.proofs.fetching.fetch_in_turn.Goals as goal
 
 pub returns-clause-fetched : goal.returns-clause-fetched
 returns-clause-fetched g c =
-    fetched_there c.enter-turn.result.value.medium c.args.hub.now.name c.leave.result.seen c.args.site c.fetch.result c.args.ask.now c.args.sheet.now c.fetch.new.sheet (search rules) (search rules) (search rules)
+    fetched_there c.value-2.result.now.medium c.args.hub.now.name c.leave.result.seen c.args.site c.fetch.result c.args.ask.now c.args.sheet.now c.fetch.new.sheet (search rules) (search rules)
+    c.fetch.ensures.fetched

@@ -1,4 +1,4 @@
-use Rattle.std.proofs.Common.{rules, ap, subst}
+use Rattle.std.proofs.Common.{rules}
 use Rattle.sv_live.proofs.ReceiptLaws.{entry_there}
 use Rattle.sv_live.proofs.turns.finish.Goals as goal
 
