@@ -1,0 +1,4 @@
+pub mod Attempts
+pub mod Dues
+pub mod Fetches
+pub mod Receipts

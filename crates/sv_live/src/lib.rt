@@ -1,0 +1,18 @@
+//! Requests that threads answer on one world behind a hub, and packets that they take to its sites.
+#![tactic(auto)]
+
+mod answers;
+mod attempts;
+mod begun;
+mod deliveries;
+mod fetching;
+mod gates;
+mod requests;
+mod tells;
+mod turns;
+
+pub use answers::{Attempt, Receipt};
+pub use attempts::attempt;
+pub use deliveries::deliver_some;
+pub use gates::{Gate, OpenGate};
+pub use requests::request;
