@@ -36,3 +36,4 @@ pub mod RightLaws
 pub mod SettingFitLaws
 pub mod StepFitLaws
 pub mod PartsFitLaws
+pub mod MadeLaws

@@ -6,6 +6,7 @@ pub mod InitRefused
 pub mod LastRefused
 pub mod Laws
 pub mod LineReading
+pub mod Made
 pub mod PartsFit
 pub mod Places
 pub mod Reading
