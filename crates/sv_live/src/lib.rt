@@ -3,8 +3,8 @@
 
 mod answers;
 mod attempts;
-mod begun;
 mod deliveries;
+mod dues;
 mod fetching;
 mod gates;
 mod requests;
