@@ -10,7 +10,7 @@ use Rattle.sv_core.specs.Document.{Document, document_of}
 use Rattle.sv_core.specs.History.{History, answered, item_of, items_of, moved, moves, site_of}
 use Rattle.sv_core.specs.Laws.{IsLawful}
 use Rattle.sv_core.specs.Legal.{Legal}
-use Rattle.sv_core.specs.Made.{IsFor, IsListedAt, Made}
+use Rattle.sv_core.specs.Made.{IsListedAt}
 use Rattle.sv_core.specs.MediumState.{CanCommit}
 use Rattle.sv_core.specs.Mediums.{AreNextCalls, MediumView, doc_of}
 use Rattle.sv_core.specs.Sound.{Sound, SoundDoc}
@@ -83,14 +83,3 @@ due_commits m session due p lawful nexts listed duly site moves =
     (duly.lives ∙ sym site ∙ ap (site_of (doc_of m) m.history) (sym duly.whose))
     (ap (moved m.history) duly.whose ∙ moves)
     ((λ i. slice_get (items_of (doc_of m) (duly.whose i)) (duly.next i + due.moved)) ∙ duly.call.item)
-
--- what was prepared for a call that is due
-pub due_made : (doc : Doc) (session : ℕ) (due : Due) (request : Request) (p : Prepared) → IsFor session due.site due.index request p → Made (document_of doc) p
-    → IsCall (document_of doc) session due.index due.moved request → IsDuly doc session due p
-due_made doc session due request p for made call = record {
-  made = made;
-  whose = for.same_session;
-  lives = for.same_site;
-  next = for.same_index;
-  call = subst (IsCall (document_of doc) session due.index due.moved) (sym for.same_request) call;
-}
