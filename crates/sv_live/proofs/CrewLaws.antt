@@ -8,13 +8,13 @@ use Rattle.std.proofs.lemmas.Bool.{cases_eq}
 use Rattle.sv_hub.specs.Extends.{Extends}
 use Rattle.sv_hub.proofs.ExtendsLaws.{extends_same, extends_trans}
 use Rattle.sv_core.specs.Document.{Document, document_of}
-use Rattle.sv_core.specs.History.{History, answered, items_of, moved}
+use Rattle.sv_core.specs.History.{History}
 use Rattle.sv_live.specs.declared.crews.Duty.{Duty}
 use Rattle.sv_live.specs.declared.crews.Duty.TheVariants.{Deliveries, Requests}
 use Rattle.sv_live.specs.declared.crews.Job.{Job}
 use Rattle.sv_live.specs.declared.crews.Worked.{Worked}
 use Rattle.sv_live.specs.declared.offices.Office.{Office}
-use Rattle.sv_live.specs.Receipts.{IsListedSession}
+use Rattle.sv_live.specs.Receipts.{IsEnded, IsListedSession}
 use Rattle.sv_live.specs.Crews.{AllEnded, Answers, Gathers, HasCrew, HasCrews, HasEnded, HasSeen, IsDone, IsWork, duties_in}
 
 pub gathers_none : (doc : Document) (workers : ℕ) (duty : Duty) → Gathers doc workers duty 0 []
@@ -106,7 +106,7 @@ left_again doc sessions h later session rest are more = record {
 
 -- the first of them has ended
 pub left_ended : (doc : Document) (sessions : List ℕ) (h later : History) (session : ℕ) (rest : List ℕ) → AreLeft doc sessions h (session ∷ rest) → Extends later h
-    → answered later session + moved later session ≡ length (items_of doc session) → AreLeft doc sessions later rest
+    → IsEnded doc later session → AreLeft doc sessions later rest
 left_ended doc sessions h later session rest are more ended = record {
   listed = All-tail (IsListedSession doc) session rest are.listed;
   each = All-weaker (OneLeft doc h (session ∷ rest)) (OneLeft doc later rest) by sessions are.each;
@@ -130,7 +130,7 @@ answered_one doc sessions h later session before rest after are is more put =
     subst (AreLeft doc sessions later) (sym put) (left_again doc sessions h later session rest (subst (AreLeft doc sessions h) is are) more)
 
 pub ended_one : (doc : Document) (sessions : List ℕ) (h later : History) (session : ℕ) (before rest : List ℕ) → AreLeft doc sessions h before → before ≡ session ∷ rest
-    → Extends later h → answered later session + moved later session ≡ length (items_of doc session) → AreLeft doc sessions later rest
+    → Extends later h → IsEnded doc later session → AreLeft doc sessions later rest
 ended_one doc sessions h later session before rest are is more ended = left_ended doc sessions h later session rest (subst (AreLeft doc sessions h) is are) more ended
 
 -- where all of a worker's sessions have ended, its duty is done
@@ -208,7 +208,7 @@ done_by office jobs worked h d seen long each duty (place, less, is) =
     let here = each place d within in
     let its : here.job.duty ≡ duty = sym (ap (λ (job : Job). job.duty) (here.at here.job)) ∙ sym (get_or-map (λ (job : Job). job.duty) jobs place here.job duty within) ∙ is in
     subst (IsDone (document_of office.hub.name) office.workers h) its
-        (done_in office here.job.duty (slice_index_or worked place d) h (seen place d (omega (arith, within, long))) here.work)
+    (done_in office here.job.duty (slice_index_or worked place d) h (seen place d (omega (arith, within, long))) here.work)
 
 -- where each session has a worker, and all of them have done their duties, all sessions have ended
 pub all_ended : (office : Office) (jobs : List Job) (worked : List Worked) (h : History) → office.sites ≡ office.hub.name.sites → 1 ≤ office.sites → 1 ≤ office.workers

@@ -5,9 +5,9 @@ use Rattle.sv_hub.specs.Extends.{Extends}
 use Rattle.sv_hub.specs.Sight.{Belongs}
 use Rattle.sv_post.specs.Sight.{Belongs as IsPassOf}
 use Rattle.sv_core.specs.Document.{Document, document_of}
-use Rattle.sv_core.specs.History.{History, answered, items_of, moved}
+use Rattle.sv_core.specs.History.{History}
 use Rattle.sv_core.specs.Sound.{IsSite}
-use Rattle.sv_live.specs.Receipts.{IsListedSession}
+use Rattle.sv_live.specs.Receipts.{IsEnded, IsListedSession}
 use Rattle.sv_live.specs.declared.crews.Duty.{Duty}
 use Rattle.sv_live.specs.declared.crews.Duty.TheVariants.{Requests, Deliveries}
 use Rattle.sv_live.specs.declared.crews.Job.{Job}
@@ -30,7 +30,7 @@ pub record Gathers (doc : Document) (workers : ℕ) (duty : Duty) (first : ℕ) 
 pub record HasEnded (doc : Document) (h : History) (session : ℕ) : Type 0 where
   pub then : History
   pub extends : Extends h then
-  pub ended : answered then session + moved then session ≡ length (items_of doc session)
+  pub ended : IsEnded doc then session
 
 -- so it is with all sessions of this duty
 pub record IsDone (doc : Document) (workers : ℕ) (h : History) (duty : Duty) : Type 0 where

@@ -18,7 +18,7 @@ use crate::requests::request;
 use std::alloc::Global;
 use std::collections::VecDeque;
 use std::sync::Wait;
-use std::sync::atomic::{Ordering};
+use std::sync::atomic::Ordering;
 use std::thread;
 use std::thread::Threads;
 use sv_core::World;
@@ -322,7 +322,11 @@ fn plan_of(alloc: Global, office: &Office, passes: Passes) -> Result<Plan, NoMem
 /// The pass that has seen all that the workers have. `NoMemory` where the sessions of one haven't ended, since one found
 /// none.
 #[tactic(auto, using(sv_hub::proofs::ExtendsLaws::extending))]
-fn join_all(office: &Office, pass: Pass<World>, worked: Vec<Worked>) -> Result<Pass<World>, NoMemory>
+fn join_all(
+    office: &Office,
+    pass: Pass<World>,
+    worked: Vec<Worked>,
+) -> Result<Pass<World>, NoMemory>
     requires own { Belongs office.now.hub pass }
     requires others { All (λ (worked : WorkedValue). Belongs office.now.hub worked.pass) worked.items }
     ensures own { IfOk result (Belongs office.now.hub) }

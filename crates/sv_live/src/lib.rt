@@ -4,9 +4,9 @@
 
 mod answers;
 mod attempts;
-mod begun;
 mod crews;
 mod deliveries;
+mod dues;
 mod fetching;
 mod gates;
 mod offices;

@@ -76,12 +76,7 @@ fn tell_ended<F: Fn(&World) -> Result<Vec<u8>, NoMemory>>(
 }
 
 /// The office of a started world, and passes for it.
-fn open(
-    alloc: Global,
-    world: World,
-    workers: u8,
-    seed: u64,
-) -> Result<(Office, Passes), NoMemory>
+fn open(alloc: Global, world: World, workers: u8, seed: u64) -> Result<(Office, Passes), NoMemory>
     requires workers { (1 ≤ workers) × (workers ≤ 8) }
     ensures name { IfOk result (λ opened. opened.0.hub.name ≡ world.medium.doc) }
     ensures passes { IfOk result (λ opened. AreOf opened.0 opened.1) }
@@ -112,11 +107,7 @@ fn open(
 ///
 /// `NoMemory`.
 #[tactic(auto, using(crate::proofs::ServeLaws::ended_later))]
-pub fn serve<
-    G: Gate + Sync,
-    R: Threads + Wait + Sync,
-    F: Fn(&World) -> Result<Vec<u8>, NoMemory>,
->(
+pub fn serve<G: Gate + Sync, R: Threads + Wait + Sync, F: Fn(&World) -> Result<Vec<u8>, NoMemory>>(
     alloc: Global,
     rt: &R,
     doc: Arc<Doc>,

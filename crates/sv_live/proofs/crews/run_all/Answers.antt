@@ -23,6 +23,6 @@ returns-clause-ended g c =
     let jobs = c.in_ok-jobs.field-0.jobs.items in
     let worked = c.in_ok-worked.worked.items in
     IfOk-weaker c.join_all.result (λ pass. All (HasSeen pass.seen) worked) (λ pass. AllEnded (document_of office.hub.name) pass.seen)
-        (λ pass seen. all_ended office jobs worked pass.seen (search rules) (search rules) (search rules) (search rules) seen (search rules)
-            (λ place d less. let it = (c.in_ok-worked.ensures.each place d less).1 in record { job = it.job; at = it.job_is; work = it.call.met }))
-        c.join_all.ensures.seen
+    (λ pass seen. all_ended office jobs worked pass.seen (search rules) (search rules) (search rules) (search rules) seen (search rules)
+    (λ place d less. let it = (c.in_ok-worked.ensures.each place d less).1 in record { job = it.job; at = it.job_is; work = it.call.met }))
+    c.join_all.ensures.seen

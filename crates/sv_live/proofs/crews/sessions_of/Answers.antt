@@ -8,5 +8,5 @@ use Rattle.sv_live.proofs.crews.sessions_of.Goals as goal
 pub loop-place-preserved : goal.loop-place-preserved
 loop-place-preserved c =
     let next = gathers_next (document_of c.args.office.now.hub.name) c.args.office.now.workers (Requests c.args.site c.args.worker) c.loop-place.place c.loop-place.sessions.items
-        c.if-is_of.sessions.items c.loop-place.invariant (search rules) in
+    c.if-is_of.sessions.items c.loop-place.invariant (search rules) in
     elim c.if-is_of.branch [ then-is_of+in_ok-reserve w ↦ next (inl (search rules)) | else-is_of w ↦ next (inr (search rules, search rules)) ]
