@@ -9,23 +9,20 @@ use Rattle.sv_core.specs.declared.prepared.Prepared.{Prepared}
 use Rattle.sv_core.specs.Document.{Document, document_of}
 use Rattle.sv_core.specs.History.{History, answered, item_of, items_of, moved, moves, site_of}
 use Rattle.sv_core.specs.Laws.{IsLawful}
-use Rattle.sv_core.specs.Legal.{IsSession, Legal}
-use Rattle.sv_core.specs.Made.{IsFor, IsListedAt, Made}
+use Rattle.sv_core.specs.Legal.{Legal}
+use Rattle.sv_core.specs.Made.{IsListedAt}
 use Rattle.sv_core.specs.MediumState.{CanCommit}
 use Rattle.sv_core.specs.Mediums.{AreNextCalls, MediumView, doc_of}
 use Rattle.sv_core.specs.Sound.{Sound, SoundDoc}
 use Rattle.sv_core.proofs.ItemLaws.{HasEnded, call_listed, can_commit, go_awaited, has_ended, item_fits}
-use Rattle.sv_live.specs.declared.begun.Due.{Due}
-use Rattle.sv_live.specs.declared.begun.Next.{Next}
-use Rattle.sv_live.specs.declared.begun.Next.TheVariants.{Leave}
-use Rattle.sv_live.specs.Dues.{IsCall, IsDue, IsDuly, IsNextItem}
-use Rattle.sv_live.specs.Receipts.{IsEnded, IsListedSession}
+use Rattle.sv_live.specs.declared.dues.Due.{Due}
+use Rattle.sv_live.specs.declared.dues.Next.{Next}
+use Rattle.sv_live.specs.declared.dues.Next.TheVariants.{Leave}
+use Rattle.sv_live.specs.Dues.{IsCall, IsDuly, IsNextItem}
+use Rattle.sv_live.specs.Receipts.{IsEndedWith, IsListedSession}
 
 pub some_listed : (doc : Document) (session : ℕ) → IsListedSession doc session → doc.sessions ≢ []
 some_listed doc session listed none = let e : length doc.sessions ≡ 0 = ap length none in omega (arith, listed.from, listed.to, e)
-
-pub is_session : (doc : Document) (session : ℕ) → Sound doc → IsListedSession doc session → IsSession session
-is_session doc session sound listed = let most = sound.sessions in record { from = listed.from; to = omega (arith, listed.to, most) }
 
 -- the call that is next
 pub is_call : (doc : Document) (h : History) (session index gone : ℕ) (request : Request) → Sound doc → Legal doc h → IsListedSession doc session → index ≡ answered h session → gone ≡ moved h session
@@ -41,15 +38,15 @@ is_call doc h session index gone request sound legal listed next moves stands = 
 
 -- nothing is next
 pub is_ended : (doc : Document) (h : History) (session index gone : ℕ) → Legal doc h → IsListedSession doc session → index ≡ answered h session → gone ≡ moved h session
-    → slice_get (items_of doc session) (index + gone) ≡ None → IsEnded doc h session index
-is_ended doc h session index gone legal listed next moves none = record { done = ended.all; calls = next ∙ ended.calls; answers = next }
+    → slice_get (items_of doc session) (index + gone) ≡ None → IsEndedWith doc h session index
+is_ended doc h session index gone legal listed next moves none = record { ended = all.all; calls = next ∙ all.calls; answers = next }
   where
-    ended : HasEnded doc h session
-    ended = has_ended doc h session legal (some_listed doc session listed) ((λ i. slice_get (items_of doc session) (sym next i + sym moves i)) ∙ none)
+    all : HasEnded doc h session
+    all = has_ended doc h session legal (some_listed doc session listed) ((λ i. slice_get (items_of doc session) (sym next i + sym moves i)) ∙ none)
 
 -- the same of the items that were read
 pub none_left : (doc read : Doc) (h : History) (session index gone : ℕ) (items : List Item) → Legal (document_of doc) h → IsListedSession (document_of doc) session
-    → index ≡ answered h session → gone ≡ moved h session → items ≡ items_of (document_of read) session → read ≡ doc → length items ≤ index + gone → IsEnded (document_of doc) h session index
+    → index ≡ answered h session → gone ≡ moved h session → items ≡ items_of (document_of read) session → read ≡ doc → length items ≤ index + gone → IsEndedWith (document_of doc) h session index
 none_left doc read h session index gone items legal listed next moves are same past =
     is_ended (document_of doc) h session index gone legal listed next moves
     (ap (λ xs. slice_get xs (index + gone)) (sym (are ∙ ap (λ d. items_of (document_of d) session) same)) ∙ slice_get_past items (index + gone) past)
@@ -86,20 +83,3 @@ due_commits m session due p lawful nexts listed duly site moves =
     (duly.lives ∙ sym site ∙ ap (site_of (doc_of m) m.history) (sym duly.whose))
     (ap (moved m.history) duly.whose ∙ moves)
     ((λ i. slice_get (items_of (doc_of m) (duly.whose i)) (duly.next i + due.moved)) ∙ duly.call.item)
-
--- what was prepared for a call that is due
-pub due_made : (doc : Doc) (session : ℕ) (due : Due) (request : Request) (p : Prepared) → IsFor session due.site due.index request p → Made (document_of doc) p
-    → IsCall (document_of doc) session due.index due.moved request → IsDuly doc session due p
-due_made doc session due request p for made call = record {
-  made = made;
-  whose = for.same_session;
-  lives = for.same_site;
-  next = for.same_index;
-  call = subst (IsCall (document_of doc) session due.index due.moved) (sym for.same_request) call;
-}
-
-pub due_again : (doc other : Doc) (session : ℕ) (due : Due) → IsDue doc session due → other ≡ doc → IsDue other session due
-due_again doc other session due is same = subst (λ d. IsDue d session due) (sym same) is
-
-pub duly_again : (doc other : Doc) (session : ℕ) (due : Due) (p : Prepared) → IsDuly doc session due p → other ≡ doc → IsDuly other session due p
-duly_again doc other session due p is same = subst (λ d. IsDuly d session due p) (sym same) is

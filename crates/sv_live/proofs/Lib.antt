@@ -1,6 +1,9 @@
 pub mod AttemptLaws
+pub mod CrewLaws
 pub mod DueLaws
 pub mod FetchLaws
 pub mod MailLaws
 pub mod ReceiptLaws
 pub mod SettleLaws
+pub mod ServeLaws
+pub mod ShareLaws

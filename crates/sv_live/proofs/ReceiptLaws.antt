@@ -77,6 +77,3 @@ entry_there before middle after seen session entered grown same is =
 -- what a pass has seen behind a turn in which the history grew
 pub seen_later : (before found was after seen : History) → Extends found before → was ≡ found → Extends after was → seen ≡ after → Extends seen before
 seen_later before found was after seen entered same grown left = subst (λ h. Extends h before) (sym left) (extends_trans (subst (λ h. Extends after h) same grown) entered)
-
-pub receipt_some : (doc : Document) (before after : History) (session : ℕ) (receipt : Receipt) → IsReceiptIfAny doc before after session (Some receipt) → IsReceipt doc before after session receipt
-receipt_some doc before after session receipt is = is

@@ -8,11 +8,11 @@ use Rattle.sv_core.specs.Document.{Document, document_of}
 use Rattle.sv_core.specs.History.{History, item_of, items_of}
 use Rattle.sv_core.specs.Made.{IsListedAt, Made}
 use Rattle.sv_core.specs.Sound.{IsSite, RequestFits, SoundDoc}
-use Rattle.sv_live.specs.declared.begun.Due.{Due}
-use Rattle.sv_live.specs.declared.begun.Next.{Next}
-use Rattle.sv_live.specs.declared.begun.Next.TheVariants.{Ask, End, Leave}
+use Rattle.sv_live.specs.declared.dues.Due.{Due}
+use Rattle.sv_live.specs.declared.dues.Next.{Next}
+use Rattle.sv_live.specs.declared.dues.Next.TheVariants.{Ask, End, Leave}
 use Rattle.sv_live.specs.declared.turns.Entered.{Entered}
-use Rattle.sv_live.specs.Receipts.{IsAnswerAt, IsEnded}
+use Rattle.sv_live.specs.Receipts.{IsAnswerAt, IsEndedWith}
 
 -- the session's item behind so many answers and so many moves is this request, which fits; its number among the session's calls is that of the answers
 pub record IsCall (doc : Document) (session index moved : ℕ) (request : Request) : Type 0 where
@@ -38,13 +38,13 @@ pub record IsDuly (doc : Doc) (session : ℕ) (due : Due) (p : Prepared) : Type 
 
 -- what the session does next: nothing, where all is done; its next item
 abbrev pub IsNextItem : Doc → History → ℕ → Next → Type 0
-IsNextItem doc h session (End count) = IsEnded (document_of doc) h session count
+IsNextItem doc h session (End count) = IsEndedWith (document_of doc) h session count
 IsNextItem doc h session (Leave site) = item_of (document_of doc) h session ≡ Some (Go site)
 IsNextItem doc h session (Ask due) = IsDue doc session due
 
 -- what was found in a turn, in which a session that leaves went
 abbrev pub IsFound : Doc → History → ℕ → Next → Type 0
-IsFound doc h session (End count) = IsEnded (document_of doc) h session count
+IsFound doc h session (End count) = IsEndedWith (document_of doc) h session count
 IsFound doc h session (Leave site) = Unit {0}
 IsFound doc h session (Ask due) = IsDue doc session due
 

@@ -1,4 +1,6 @@
 pub mod Attempts
+pub mod Crews
 pub mod Dues
 pub mod Fetches
 pub mod Receipts
+pub mod Serving

@@ -37,15 +37,19 @@ pub record IsNew (before after : History) (session place index : ℕ) : Type 0 w
   pub answer : IsAnswerAt after session place index packet
   pub unseen : length before ≤ place
 
--- all items of the session are done, and so many of them are requests, which are answered
-pub record IsEnded (doc : Document) (h : History) (session count : ℕ) : Type 0 where
-  pub done : answered h session + moved h session ≡ length (items_of doc session)
+-- all items of the session are done
+abbrev pub IsEnded : Document → History → ℕ → Type 0
+IsEnded doc h session = answered h session + moved h session ≡ length (items_of doc session)
+
+-- and so many of them are requests, each of which is answered
+pub record IsEndedWith (doc : Document) (h : History) (session count : ℕ) : Type 0 where
+  pub ended : IsEnded doc h session
   pub calls : count ≡ calls_in (items_of doc session)
   pub answers : count ≡ answered h session
 
 abbrev pub IsReceipt : Document → History → History → ℕ → Receipt → Type 0
 IsReceipt doc before after session (Answered place index) = IsNew before after session place index
-IsReceipt doc before after session (Ended count) = IsEnded doc after session count
+IsReceipt doc before after session (Ended count) = IsEndedWith doc after session count
 
 abbrev pub IsReceiptIfAny : Document → History → History → ℕ → Option Receipt → Type 0
 IsReceiptIfAny doc before after session receipt = IfSome receipt (IsReceipt doc before after session)

@@ -15,7 +15,7 @@ ghost use Rattle.sv_core.specs.Sound.{IsSite};
 ghost use Rattle.sv_live.specs.Dues.{IsDue, IsDuly};
 ghost use Rattle.sv_live.specs.Receipts.{IsListedSession};
 
-use crate::begun::{Due, request_of};
+use crate::dues::{Due, request_of};
 use crate::gates::{Gate, wait_misses};
 use crate::tells::tell_lawful;
 use std::alloc::Global;

@@ -10,7 +10,7 @@ ghost use Rattle.sv_live.specs.Dues.{IsDue, IsEntryIfAny};
 ghost use Rattle.sv_live.specs.Receipts.{IsListedSession, IsReceipt, IsReceiptIfAny};
 
 use crate::answers::Receipt;
-use crate::begun::{Due, Next};
+use crate::dues::{Due, Next};
 use crate::fetching::prepare_outside;
 use crate::gates::{Gate, wait_admits};
 use crate::turns::{Entered, begin, finish};
@@ -117,7 +117,7 @@ fn try_request<G: Gate, R: Wait>(
 /// # Errors
 ///
 /// `NoMemory` where there is none outside of the last turn; then nothing of this call waits for a slot.
-#[tactic(auto, using(sv_hub::proofs::ExtendsLaws::extending, crate::proofs::ReceiptLaws::receipt_earlier, crate::proofs::ReceiptLaws::receipt_some, sv_post::proofs::SightLaws::later_same, sv_post::proofs::SightLaws::later_trans))]
+#[tactic(auto, using(sv_hub::proofs::ExtendsLaws::extending, crate::proofs::ReceiptLaws::receipt_earlier, sv_post::proofs::SightLaws::later_same, sv_post::proofs::SightLaws::later_trans))]
 pub fn request<G: Gate, R: Wait>(
     alloc: Global,
     rt: &R,

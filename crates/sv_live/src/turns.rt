@@ -10,7 +10,7 @@ ghost use Rattle.sv_live.specs.Receipts.{IsListedSession};
 
 use crate::answers::Attempt;
 use crate::attempts::attempt;
-use crate::begun::{Due, Next, next_of};
+use crate::dues::{Due, Next, next_of};
 use crate::tells::{tell_lawful, tell_sound, tell_waiting};
 use std::sync::Wait;
 use sv_core::{Prepared, World};

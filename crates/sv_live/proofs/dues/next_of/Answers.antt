@@ -1,6 +1,6 @@
 use Rattle.std.proofs.Common.{◌∙◌}
 use Rattle.sv_live.proofs.DueLaws.{call_read, none_left, sending_read}
-use Rattle.sv_live.proofs.begun.next_of.Goals as goal
+use Rattle.sv_live.proofs.dues.next_of.Goals as goal
 
 pub returns-then-place-items : goal.returns-then-place-items
 returns-then-place-items c =
