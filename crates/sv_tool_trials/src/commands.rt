@@ -55,13 +55,12 @@ pub fn is_refusal(text: &[u8]) -> bool {
         && text.ends_with(b"\n")
 }
 
-/// A text so often.
-pub fn repeated(alloc: Global, text: &str, count: usize) -> Result<Vec<u8>, Fail> {
-    let mut bytes = Vec::new(alloc);
+/// Appends a text so often.
+pub fn put_often(bytes: &mut Vec<u8>, text: &str, count: usize) -> Result<(), Fail> {
     for _ in 0..count {
         bytes.extend_from_slice(text.as_bytes())?;
     }
-    Ok(bytes)
+    Ok(())
 }
 
 /// The texts behind each other.

@@ -1,5 +1,5 @@
 //! Documents that are broken, and such as reach past a limit: one line of refusal, or the text, and never a crash.
-use crate::commands::{Ends, SURE, answer, is_refusal, joined, repeated};
+use crate::commands::{Ends, SURE, answer, is_refusal, joined, put_often};
 use crate::documents::{ACCOUNTS, PURCHASE, PURCHASED, SHOP};
 use std::alloc::Global;
 use std::sync::Wait;
@@ -65,7 +65,6 @@ fn a_document_has_sixteen_tables_at_most(rt: HostRuntime) -> Result<(), Fail> {
 #[test]
 fn what_is_deep_is_refused(rt: HostRuntime) -> Result<(), Fail> {
     let alloc = rt.alloc();
-    let table = b"create table t (id int, primary key (id));\n".as_slice();
     for (front, piece, text) in [
         ("txn a() { reply ", "(", "refused 2:32 6\n"),
         ("txn a() { reply ", "-", "refused 2:32 6\n"),
@@ -74,8 +73,9 @@ fn what_is_deep_is_refused(rt: HostRuntime) -> Result<(), Fail> {
         ("txn a() { if ", "not ", "refused 2:70 6\n"),
         ("txn a() {\n", "if 1 = 1 {\n", "refused 10:10 6\n"),
     ] {
-        let pieces = repeated(alloc, piece, 80_000)?;
-        let document = joined(alloc, &[table, front.as_bytes(), pieces.as_slice()])?;
+        let mut document = Vec::from_slice(alloc, b"create table t (id int, primary key (id));\n")?;
+        document.extend_from_slice(front.as_bytes())?;
+        put_often(&mut document, piece, 80_000)?;
         assert_check(&rt, alloc, &document, 1, text)?;
     }
     Ok(())
@@ -83,9 +83,10 @@ fn what_is_deep_is_refused(rt: HostRuntime) -> Result<(), Fail> {
 
 /// The shop, two lines behind it, and a line so often.
 fn steps(alloc: Global, line: &str, count: usize) -> Result<Vec<u8>, Fail> {
-    let front = b"%% init item(7, 10, 3);\n%% replay sites=2\n".as_slice();
-    let lines = repeated(alloc, line, count)?;
-    joined(alloc, &[SHOP.as_bytes(), front, lines.as_slice()])
+    let mut document = Vec::from_slice(alloc, SHOP.as_bytes())?;
+    document.extend_from_slice(b"%% init item(7, 10, 3);\n%% replay sites=2\n")?;
+    put_often(&mut document, line, count)?;
+    Ok(document)
 }
 
 #[test]
@@ -234,7 +235,9 @@ fn each_byte_is_judged_in_some_places(rt: HostRuntime) -> Result<(), Fail> {
         let before = ACCOUNTS.as_bytes().get(..place).ok_or("a front")?;
         let behind = ACCOUNTS.as_bytes().get(place..).ok_or("a rest")?;
         for byte in 0..=255u8 {
-            let document = joined(alloc, &[before, &[byte], behind])?;
+            let mut document = Vec::from_slice(alloc, before)?;
+            document.push(byte)?;
+            document.extend_from_slice(behind)?;
             assert_judged(&rt, alloc, "check", &document)?;
         }
     }
